@@ -1,6 +1,6 @@
 -- Bit strings and their bytes. Source: chiapos, `Bits` and `Bits::ToBytes`.
 -- A bit string is a list of bits, the first one the most significant. A byte is a number below 256.
-use Rattle.std.specs.Prelude.{ℕ, zero, suc, ◌+◌, ◌*◌, ◌/◌, ◌%◌, ◌^◌, ◌==◌, Bool, false, if◌then◌else◌, List, [], ◌∷◌, ◌++◌, length, take, drop, replicate}
+use Rattle.std.specs.Prelude.{ℕ, zero, suc, ◌+◌, ◌*◌, ◌/◌, ◌%◌, ◌^◌, ◌<◌, ◌==◌, All, Bool, false, if◌then◌else◌, List, [], ◌∷◌, ◌++◌, length, take, drop, replicate}
 
 -- the low w binary digits of v, the top one first
 unfoldable pub bits : ℕ → ℕ → List Bool
@@ -33,3 +33,7 @@ bytes s = bytes_for (byte_count (length s)) s
 unfoldable pub bits_of : List ℕ → List Bool
 bits_of [] = []
 bits_of (b ∷ bs) = bits b 8 ++ bits_of bs
+
+-- numbers that are bytes
+abbrev pub AreBytes : List ℕ → Type 0
+AreBytes bs = All (λ b. b < 256) bs

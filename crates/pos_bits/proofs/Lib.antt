@@ -1,0 +1,9 @@
+pub mod BitsLemmas
+pub mod BlocksLemmas
+pub mod BytesLemmas
+pub mod HeldLemmas
+pub mod OutLemmas
+pub mod PiecesLemmas
+pub mod WindowLemmas
+pub mod AppendLemmas
+pub mod ReaderLemmas

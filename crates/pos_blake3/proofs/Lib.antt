@@ -1,0 +1,2 @@
+pub mod BlakeLemmas
+pub mod Worked

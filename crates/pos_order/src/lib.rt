@@ -1,0 +1,15 @@
+//! The order of tuples, plot order, the values of a proof's bytes, and the quality of a proof.
+//!
+//! Source of the rules: the Proof of Space Construction document, version 1.1, and chiapos.
+#![tactic(auto)]
+
+mod order;
+mod quality_string;
+mod values;
+
+pub use order::{below, to_plot_order};
+pub use quality_string::{pair_quality, quality};
+pub use values::proof_values;
+
+#[cfg(test)]
+mod tests;

@@ -1,0 +1,4 @@
+pub mod MatchLemmas
+pub mod NodeLemmas
+pub mod StreamLemmas
+pub mod Worked

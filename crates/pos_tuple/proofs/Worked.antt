@@ -1,0 +1,31 @@
+-- The definitions tried against values of an independent program, which was tried against published ones.
+use Rattle.std.proofs.Common.{◌≡◌, ℕ, List, [], ◌∷◌, refl, Bool, true, false}
+use Rattle.std.specs.Prelude.{replicate, Some}
+use Rattle.pos_bits.specs.Bits.{bits, number, bytes_for, bits_of}
+use Rattle.pos_blake3.specs.Blake3.{blake3_block, word_bytes, halves_joined, rounds, round, mix, mix_words, initial_state, initial_words, message_words, permuted, permutation}
+use Rattle.rand_core.specs.Steps.{u32_at}
+use Rattle.rand_chacha.specs.Block.{block_word, double_rounds, column_round, diagonal_round, quarter_round}
+use Rattle.pos_tuple.specs.declared.entry.Entry.{Entry}
+use Rattle.pos_tuple.specs.Stream.{stream_word, stream_byte, stream_bit, stream_bits, f1_of}
+use Rattle.pos_tuple.specs.Match.{is_match, has_target_below}
+use Rattle.pos_tuple.specs.Node.{first_entry, hash_bits, collated, next_entry, first_node, joined, node}
+
+-- f1 of two values, for the id of 32 zero bytes and k = 12
+pub f1_of_a_value : f1_of (replicate 32 0) 12 3208 ≡ 114418
+unfolding f1_of stream_bits stream_bit stream_byte stream_word block_word double_rounds column_round diagonal_round quarter_round u32_at number bits
+f1_of_a_value = refl
+
+pub f1_of_another : f1_of (replicate 32 0) 12 2475 ≡ 120998
+unfolding f1_of stream_bits stream_bit stream_byte stream_word block_word double_rounds column_round diagonal_round quarter_round u32_at number bits
+f1_of_another = refl
+
+-- the two match, with these bits of metadata behind the y of their node
+pub two_values_match : is_match 114418 120998 ≡ true
+unfolding is_match has_target_below
+two_values_match = refl
+
+pub node_of_two_values :
+    next_entry 12 2 (record { y = 114418; meta = bits 3208 12 }) (record { y = 120998; meta = bits 2475 12 })
+    ≡ record { y = 117350; meta = bits 0b110010001000100110101011 24 }
+unfolding next_entry collated hash_bits number bytes_for bits_of bits blake3_block word_bytes halves_joined rounds round mix mix_words initial_state initial_words message_words permuted permutation
+node_of_two_values = refl

@@ -1,0 +1,4 @@
+pub mod Stream
+pub mod Match
+pub mod Node
+pub mod Proof
