@@ -1,14 +1,13 @@
 -- Bits appended to bytes and a rest of fewer than 64 bits.
-use Rattle.std.proofs.Common.{◌≡◌, ℕ, zero, suc, ◌+◌, ◌-◌, ◌*◌, ◌/◌, ◌%◌, ◌^◌, ◌<◌, ◌≤◌, Bool, true, false, List, [], ◌∷◌, ◌++◌, length, take, drop, replicate, refl, sym, ap, ap₂, ◌∙◌, subst, arith, w64, append_assoc, append-nil, mod-lt, pow_pos, pow-add, add-zero, take_at}
+use Rattle.std.proofs.Common.{◌≡◌, ℕ, ◌+◌, ◌-◌, ◌*◌, ◌/◌, ◌%◌, ◌^◌, ◌<◌, ◌≤◌, Bool, true, false, List, [], ◌∷◌, ◌++◌, length, take, replicate, refl, sym, ap, ap₂, ◌∙◌, subst, arith, w64, append_assoc, append-nil, mod-lt, pow_pos, pow-add, add-zero, take_at}
 use Rattle.std.specs.Int.{to_be_bytes}
-use Rattle.std.proofs.lemmas.Nat.{shr_below}
 use Rattle.std.proofs.lemmas.List.Elements.{All-take}
 use Rattle.std.proofs.lemmas.List.{replicate-append-replicate}
 use Rattle.pos_bits.specs.Bits.{AreBytes, bits, bits_of, byte_count, bytes}
 use Rattle.pos_bits.specs.Blocks.{length-bits}
 use Rattle.pos_bits.proofs.BitsLemmas.{bits-append, bits-mod, bits-none, bits-ones, bits-split, bits-zero}
 use Rattle.pos_bits.proofs.BytesLemmas.{bits_of-append, bits_of-to_be_bytes, bytes-append, bytes-bits_of, bytes-padded, bytes_high_first-are_bytes, length-bytes}
-use Rattle.pos_bits.proofs.PiecesLemmas.{joined-lt, shifted}
+use Rattle.pos_bits.proofs.PiecesLemmas.{joined-lt, shifted, top-lt}
 
 -- the value is put behind the rest, and both are fewer than 64 bits
 pub rest-joined :
@@ -22,12 +21,6 @@ pub rest-joined_lt :
     rest * 2 ^ width % 2 ^ 64 + value < 2 ^ (fill + width)
 rest-joined_lt rest fill value width r v h = rw (shifted 64 rest fill width r h) (joined-lt rest fill width value r v)
 
--- the top of a value
-pub top-lt : (value width room : ℕ) → value < 2 ^ width → room ≤ width → value / 2 ^ (width - room) < 2 ^ room
-top-lt value width room v h =
-    let e : width ≡ room + (width - room) = omega arith in
-    shr_below value room (width - room) (subst (λ k. value < 2 ^ k) e v)
-
 -- a whole word of the rest and the top of the value goes to the bytes, and the low digits of the value are the new rest
 pub word-appended :
     (items new : List ℕ) (rest fill value width word low : ℕ) → fill < 64 → 64 - fill ≤ width → new ≡ items ++ to_be_bytes w64 word →
@@ -38,9 +31,9 @@ word-appended items new rest fill value width word low f w e is l =
     let left : ℕ = width - room in
     let size : room + left ≡ width = omega arith in
     let value_split : bits value width ≡ bits (value / 2 ^ left) room ++ bits value left =
-        subst (λ k. bits value k ≡ bits (value / 2 ^ left) room ++ bits value left) size (bits-split value room left) in
+    subst (λ k. bits value k ≡ bits (value / 2 ^ left) room ++ bits value left) size (bits-split value room left) in
     let whole : bits_of new ≡ bits_of items ++ (bits rest fill ++ bits (value / 2 ^ left) room) =
-        ap bits_of e ∙ bits_of-append items (to_be_bytes w64 word) ∙ ap (λ t. bits_of items ++ t) (bits_of-to_be_bytes word ∙ is) in
+    ap bits_of e ∙ bits_of-append items (to_be_bytes w64 word) ∙ ap (λ t. bits_of items ++ t) (bits_of-to_be_bytes word ∙ is) in
     ap₂ (λ a b. a ++ b) whole (ap (λ x. bits x left) l ∙ bits-mod value left)
     ∙ rw (value_split, append_assoc (bits_of items) (bits rest fill ++ bits (value / 2 ^ left) room), append_assoc (bits rest fill), append_assoc (bits_of items) (bits rest fill)) refl
 
@@ -62,17 +55,6 @@ word-of_one rest fill value width e = rw (e, bits-none rest) refl
 pub low-lt : (value left : ℕ) → value % 2 ^ left < 2 ^ left
 low-lt value left = mod-lt value (pow_pos left)
 
--- two appends of one value
-pub two-appended :
-    (start middle end : List Bool) (value width low : ℕ) → 64 ≤ width → middle ≡ start ++ bits (value / 2 ^ 64) (width - 64) →
-    low ≡ value % 2 ^ 64 → end ≡ middle ++ bits low 64 → end ≡ start ++ bits value width
-two-appended start middle end value width low h first l second =
-    let size : (width - 64) + 64 ≡ width = omega arith in
-    second
-    ∙ ap₂ (λ a b. a ++ b) first (ap (λ x. bits x 64) l ∙ bits-mod value 64)
-    ∙ append_assoc start (bits (value / 2 ^ 64) (width - 64)) (bits value 64)
-    ∙ ap (λ t. start ++ t) (sym (bits-split value (width - 64) 64) ∙ ap (bits value) size)
-
 -- ---- the last bytes
 
 -- the rest shifted to the top of a word
@@ -93,8 +75,8 @@ bytes-of_rest rest fill h =
     let s : List Bool = bits rest fill in
     let l : length s ≡ fill = length-bits rest fill in
     let padded : to_be_bytes w64 x ≡ bytes s ++ replicate (8 - byte_count (length s)) 0 =
-        bytes-padded 8 s (to_be_bytes w64 x) (omega arith) (bytes_high_first-are_bytes 8 x)
-        (bits_of-to_be_bytes x ∙ bits-topped rest fill h ∙ ap (λ k. s ++ replicate (64 - k) false) (sym l)) in
+    bytes-padded 8 s (to_be_bytes w64 x) (omega arith) (bytes_high_first-are_bytes 8 x)
+    (bits_of-to_be_bytes x ∙ bits-topped rest fill h ∙ ap (λ k. s ++ replicate (64 - k) false) (sym l)) in
     ap (take (byte_count fill)) padded
     ∙ take_at (bytes s) (replicate (8 - byte_count (length s)) 0) (byte_count fill) (length-bytes s ∙ ap byte_count l)
 
@@ -147,5 +129,5 @@ run-appended start middle end ones left h m before after =
     ∙ ap₂ (λ a b. a ++ b) before (bits-run left m)
     ∙ append_assoc start (replicate (ones - left) true) (replicate left true ++ false ∷ [])
     ∙ ap (λ t. start ++ t)
-      (sym (append_assoc (replicate (ones - left) true) (replicate left true) (false ∷ []))
-       ∙ ap (λ t. t ++ false ∷ []) (replicate-append-replicate (ones - left) left true ∙ ap (λ k. replicate k true) size))
+    (sym (append_assoc (replicate (ones - left) true) (replicate left true) (false ∷ []))
+    ∙ ap (λ t. t ++ false ∷ []) (replicate-append-replicate (ones - left) left true ∙ ap (λ k. replicate k true) size))

@@ -1,6 +1,6 @@
 -- Laws of `bits` and `number`: each undoes the other, and both turn a sum of widths into a string joined of two.
-use Rattle.std.proofs.Common.{◌≡◌, ℕ, zero, suc, ◌+◌, ◌-◌, ◌*◌, ◌/◌, ◌%◌, ◌^◌, ◌<◌, ◌≤◌, ◌==◌, Bool, true, false, if◌then◌else◌, List, [], ◌∷◌, ◌++◌, length, take, drop, replicate, refl, sym, ap, ap₂, ◌∙◌, subst, arith, add-suc, suc-add, mod-eq_of_lt, length-append, take_at, drop_at, pow_pos, pow-suc, add_comm, mod-lt, one-add, zero-add, add-zero, length-drop}
-use Rattle.std.proofs.Math.Nat.{zero-div, zero-mod}
+use Rattle.std.proofs.Common.{◌≡◌, ℕ, zero, suc, ◌+◌, ◌-◌, ◌*◌, ◌/◌, ◌%◌, ◌^◌, ◌<◌, ◌≤◌, ◌==◌, Bool, true, false, List, [], ◌∷◌, ◌++◌, length, take, drop, replicate, refl, sym, ap, ap₂, ◌∙◌, subst, arith, suc-add, mod-eq_of_lt, length-append, take_at, drop_at, pow_pos, pow-suc, add_comm, mod-lt, one-add, zero-add, add-zero, length-drop}
+use Rattle.std.proofs.Math.Nat.{zero-div}
 use Rattle.std.proofs.lemmas.Nat.{pow-add, mod-pow-add, field_of, shr-shr, shr_high, mod_low, shr_below}
 use Rattle.std.proofs.lemmas.List.{length-replicate, take-append-le}
 use Rattle.pos_bits.specs.Bits.{bits, digit, number}
@@ -146,8 +146,8 @@ bits-inside x z r w h =
     let zw : w + low ≡ z = omega arith in
     let y : ℕ = x * 2 ^ r % 2 ^ z in
     let shifted : bits y z ≡ drop r (bits x z) ++ replicate r false =
-        subst (λ k. bits (x * 2 ^ r % 2 ^ k) k ≡ drop r (bits x z) ++ replicate r false) (sym zn)
-        (subst (λ k. bits (x * 2 ^ r % 2 ^ (n + r)) (n + r) ≡ drop r (bits x k) ++ replicate r false) nz (bits-shl x n r)) in
+    subst (λ k. bits (x * 2 ^ r % 2 ^ k) k ≡ drop r (bits x z) ++ replicate r false) (sym zn)
+    (subst (λ k. bits (x * 2 ^ r % 2 ^ (n + r)) (n + r) ≡ drop r (bits x k) ++ replicate r false) nz (bits-shl x n r)) in
     let long : w ≤ length (drop r (bits x z)) = simp (length-drop, length-bits) (omega arith) in
     sym (subst (λ k. take w (bits y k) ≡ bits (y / 2 ^ low) w) zw (take-bits y w low))
     ∙ ap (take w) shifted

@@ -1,10 +1,10 @@
 -- Laws of strings held in blocks of z bits: the bits come back, and what a write or a read of one block does.
-use Rattle.std.proofs.Common.{◌≡◌, ℕ, zero, suc, ◌+◌, ◌-◌, ◌*◌, ◌/◌, ◌%◌, ◌^◌, ◌<◌, ◌≤◌, Bool, true, false, List, [], ◌∷◌, ◌++◌, length, take, drop, replicate, set, get_or, All, refl, sym, ap, ap₂, ◌∙◌, subst, arith, length-append, length-drop, length-take, take_at, drop_at, take_all, take-append-drop, append_assoc, append-nil, drop-drop, pow-add, mul-suc, suc-add, zero-add, inl, inr}
+use Rattle.std.proofs.Common.{◌≡◌, ℕ, zero, suc, ◌+◌, ◌-◌, ◌*◌, ◌/◌, ◌%◌, ◌^◌, ◌<◌, ◌≤◌, Bool, false, List, [], ◌∷◌, ◌++◌, length, take, drop, replicate, set, get_or, All, refl, sym, ap, ap₂, ◌∙◌, subst, arith, length-append, length-drop, length-take, take_at, drop_at, take-append-drop, append_assoc, append-nil, drop-drop, pow-add, suc-add, zero-add, inl, inr}
 use Rattle.std.proofs.lemmas.Bool.{cases_lt}
 use Rattle.std.proofs.lemmas.List.{length-replicate, take-append-le, drop-append-le, drop_all, drop-take, replicate-append-replicate, take-take}
 use Rattle.std.proofs.lemmas.List.Elements.{All-head, All-tail, All-cons, All-nil}
 use Rattle.pos_bits.specs.Bits.{bits, number}
-use Rattle.pos_bits.specs.Blocks.{bits_of_blocks, blocks, length-bits, length-bits_of_blocks, length-blocks}
+use Rattle.pos_bits.specs.Blocks.{bits_of_blocks, blocks, length-bits}
 use Rattle.pos_bits.proofs.BitsLemmas.{bits-inside, bits-number, number-append, number-bits, number-lt, number-replicate_false}
 
 -- ---- one block
@@ -24,8 +24,8 @@ first_block_short z s h =
     let n : ℕ = z - length s in
     let e : n + length s ≡ z = omega arith in
     let whole : s ++ replicate z false ≡ (s ++ replicate n false) ++ replicate (length s) false =
-        ap (λ t. s ++ t) (ap (λ k. replicate k false) (sym e) ∙ sym (replicate-append-replicate n (length s) false))
-        ∙ sym (append_assoc s (replicate n false) (replicate (length s) false)) in
+    ap (λ t. s ++ t) (ap (λ k. replicate k false) (sym e) ∙ sym (replicate-append-replicate n (length s) false))
+    ∙ sym (append_assoc s (replicate n false) (replicate (length s) false)) in
     ap (take z) whole
     ∙ take_at (s ++ replicate n false) (replicate (length s) false) z (rw (length-append, length-replicate) (omega arith))
 
@@ -46,13 +46,13 @@ rejoined :
     first_block z s ++ (drop z s ++ replicate (z * n - length (drop z s)) false) ≡ s ++ replicate (z * suc n - length s) false
 rejoined z n s h =
     elim (cases_lt (length s) z) [
-      inl short ↦
-        let nil : drop z s ≡ [] = drop_all z s (omega arith) in
-        let e : (z - length s) + (z * n - 0) ≡ z * suc n - length s = omega arith in
-        rw (nil, first_block_short z s (omega arith), append_assoc s, replicate-append-replicate (z - length s) (z * n - 0) false, e) refl
-    | inr long ↦
-        let e : z * n - (length s - z) ≡ z * suc n - length s = omega arith in
-        rw (first_block_long z s long, length-drop z s, e, ← append_assoc (take z s) (drop z s), take-append-drop z s) refl
+      | inl short ↦
+          let nil : drop z s ≡ [] = drop_all z s (omega arith) in
+          let e : (z - length s) + (z * n - 0) ≡ z * suc n - length s = omega arith in
+          rw (nil, first_block_short z s (omega arith), append_assoc s, replicate-append-replicate (z - length s) (z * n - 0) false, e) refl
+      | inr long ↦
+          let e : z * n - (length s - z) ≡ z * suc n - length s = omega arith in
+          rw (first_block_long z s long, length-drop z s, e, ← append_assoc (take z s) (drop z s), take-append-drop z s) refl
     ]
 
 pub bits_of_blocks-blocks :
@@ -65,7 +65,7 @@ bits_of_blocks-blocks z (suc n) s h =
     let size : z * suc n ≡ z + z * n = omega arith in
     let rest : length (drop z s) ≤ z * n = rw (length-drop z s) (omega arith) in
     let tail : bits_of_blocks z (blocks z n (drop z s)) ≡ drop z s ++ replicate (z * n - length (drop z s)) false =
-        bits_of_blocks-blocks z n (drop z s) rest in
+    bits_of_blocks-blocks z n (drop z s) rest in
     ap₂ (λ a b. a ++ b) (bits-first_block z s) tail ∙ rejoined z n s h
 
 pub take-bits_of_blocks : (z n : ℕ) (s : List Bool) → length s ≤ z * n → take (length s) (bits_of_blocks z (blocks z n s)) ≡ s
@@ -83,7 +83,7 @@ blocks-append z n (x ∷ xs) s h =
     let l : length (bits x z) ≡ z = length-bits x z in
     let whole : (bits x z ++ bits_of_blocks z xs) ++ s ≡ bits x z ++ r = append_assoc (bits x z) (bits_of_blocks z xs) s in
     let first : take z ((bits x z ++ r) ++ replicate z false) ≡ bits x z =
-        ap (take z) (append_assoc (bits x z) r (replicate z false)) ∙ take_at (bits x z) (r ++ replicate z false) z l in
+    ap (take z) (append_assoc (bits x z) r (replicate z false)) ∙ take_at (bits x z) (r ++ replicate z false) z l in
     let rest : drop z (bits x z ++ r) ≡ r = drop_at (bits x z) r z l in
     rw (suc-add (length xs) n, whole, first, rest, number-bits x z (All-head (λ y. y < 2 ^ z) x xs h), blocks-append z n xs s (All-tail (λ y. y < 2 ^ z) x xs h)) refl
 
@@ -108,27 +108,27 @@ set-blocks z (suc n) zero r s v w l h i p =
     let size : length s ≡ r = omega arith in
     let lt : length t ≡ r + w = rw (length-append s (bits v w), length-bits v w) (omega arith) in
     let shift : 2 ^ (z - r) ≡ 2 ^ w * 2 ^ (z - r - w) =
-        let e : z - r ≡ w + (z - r - w) = omega arith in ap (λ k. 2 ^ k) e ∙ pow-add 2 w (z - r - w) in
+    let e : z - r ≡ w + (z - r - w) = omega arith in ap (λ k. 2 ^ k) e ∙ pow-add 2 w (z - r - w) in
     let before : number (first_block z s) ≡ number s * 2 ^ (z - r) =
-        subst (λ k. number (first_block z s) ≡ number s * 2 ^ (z - k)) size (number-first_block z s (omega arith)) in
+    subst (λ k. number (first_block z s) ≡ number s * 2 ^ (z - k)) size (number-first_block z s (omega arith)) in
     let after : number (first_block z t) ≡ number t * 2 ^ (z - r - w) =
-        let e : z - length t ≡ z - r - w = omega arith in
-        subst (λ k. number (first_block z t) ≡ number t * 2 ^ k) e (number-first_block z t (omega arith)) in
+    let e : z - length t ≡ z - r - w = omega arith in
+    subst (λ k. number (first_block z t) ≡ number t * 2 ^ k) e (number-first_block z t (omega arith)) in
     let value : number t ≡ number s * 2 ^ w + v =
-        number-append s (bits v w) ∙ rw (length-bits v w, number-bits v w p) refl in
+    number-append s (bits v w) ∙ rw (length-bits v w, number-bits v w p) refl in
     let first : number (first_block z s) + v * 2 ^ (z - r - w) ≡ number (first_block z t) =
-        rw (before, after, value, shift) (omega arith) in
+    rw (before, after, value, shift) (omega arith) in
     let none : drop z s ≡ drop z t = drop_all z s (omega arith) ∙ sym (drop_all z t (omega arith)) in
     ap₂ (λ x xs. x ∷ xs) first (ap (blocks z n) none)
 set-blocks z (suc n) (suc q) r s v w l h i p =
     let long : z ≤ length s = omega arith in
     let same : first_block z s ≡ first_block z (s ++ bits v w) =
-        first_block_long z s long
-        ∙ sym (take-append-le z s (bits v w) long)
-        ∙ sym (first_block_long z (s ++ bits v w) (rw (length-append s (bits v w)) (omega arith))) in
+    first_block_long z s long
+    ∙ sym (take-append-le z s (bits v w) long)
+    ∙ sym (first_block_long z (s ++ bits v w) (rw (length-append s (bits v w)) (omega arith))) in
     ap₂ (λ x xs. x ∷ xs) (ap number same)
     (set-blocks z n q r (drop z s) v w (rw (length-drop z s) (omega arith)) h (omega arith) p
-     ∙ ap (blocks z n) (sym (drop-append-le z s (bits v w) long)))
+    ∙ ap (blocks z n) (sym (drop-append-le z s (bits v w) long)))
 
 -- reads bits that lie in one block
 pub bits-blocks :
@@ -140,10 +140,10 @@ bits-blocks z (suc n) zero r s w h l i =
     let place : z * 0 + r ≡ r = omega arith in
     let fits : r ≤ length s = omega arith in
     let inner : drop r (first_block z s) ≡ take (z - r) (drop r s ++ replicate z false) =
-        let e : z ≡ r + (z - r) = omega arith in
-        ap (λ k. drop r (take k (s ++ replicate z false))) e
-        ∙ drop-take r (z - r) (s ++ replicate z false)
-        ∙ ap (take (z - r)) (drop-append-le r s (replicate z false) fits) in
+    let e : z ≡ r + (z - r) = omega arith in
+    ap (λ k. drop r (take k (s ++ replicate z false))) e
+    ∙ drop-take r (z - r) (s ++ replicate z false)
+    ∙ ap (take (z - r)) (drop-append-le r s (replicate z false) fits) in
     bits-inside (number (first_block z s)) z r w h
     ∙ ap (λ t. take w (drop r t)) (bits-first_block z s)
     ∙ ap (take w) inner

@@ -1,14 +1,14 @@
 -- Laws of `bytes` and `bits_of`: each undoes the other, and how they pass through `++`.
-use Rattle.std.proofs.Common.{◌≡◌, ℕ, zero, suc, ◌+◌, ◌-◌, ◌*◌, ◌/◌, ◌%◌, ◌^◌, ◌<◌, ◌≤◌, Bool, true, false, List, [], ◌∷◌, ◌++◌, length, take, drop, replicate, get_or, All, refl, sym, ap, ap₂, ◌∙◌, subst, arith, length-append, append_assoc, append-nil, mod-eq_of_lt, zero-add, w64, take_at, pow-suc, pow-add, inl, inr, take_all, take-add, drop_at, drop-drop}
+use Rattle.std.proofs.Common.{◌≡◌, ℕ, zero, suc, ◌+◌, ◌-◌, ◌*◌, ◌/◌, ◌%◌, ◌^◌, ◌<◌, ◌≤◌, Bool, false, List, [], ◌∷◌, ◌++◌, length, take, drop, replicate, get_or, All, refl, sym, ap, ap₂, ◌∙◌, subst, arith, length-append, append_assoc, append-nil, w64, take_at, pow-suc, pow-add, inl, inr, take_all, take-add, drop_at, drop-drop}
 use Rattle.std.specs.Int.{byte_at, bytes_high_first, from_be_bytes, to_be_bytes}
 use Rattle.std.proofs.lemmas.Nat.{be_bytes_8}
-use Rattle.std.proofs.lemmas.List.{length-replicate, replicate-append-replicate, get_or_past, drop_all}
+use Rattle.std.proofs.lemmas.List.{replicate-append-replicate, get_or_past, drop_all}
 use Rattle.std.proofs.lemmas.Bool.{cases_lt}
 use Rattle.std.proofs.lemmas.List.Elements.{All-append, All-cons, All-drop, All-from_get_or, All-get_or, All-nil, All-replicate, All-take}
-use Rattle.pos_bits.specs.Bits.{AreBytes, bits, bits_of, byte_count, bytes, bytes_for, number}
+use Rattle.pos_bits.specs.Bits.{AreBytes, bits, bits_of, byte_count, bytes, bytes_for}
 use Rattle.pos_bits.specs.Blocks.{bits_of_blocks, blocks, length-bits, length-bits_of_blocks, length-blocks}
-use Rattle.pos_bits.proofs.BitsLemmas.{bits-mod, bits-none, bits-split, bits-zero, number-injective}
-use Rattle.pos_bits.proofs.BlocksLemmas.{bits_of_blocks-blocks, blocks-append, blocks-lt, take-bits_of_blocks}
+use Rattle.pos_bits.proofs.BitsLemmas.{bits-mod, bits-none, bits-split, bits-zero}
+use Rattle.pos_bits.proofs.BlocksLemmas.{bits_of_blocks-blocks, blocks-append, blocks-lt}
 
 -- ---- bytes are blocks of eight bits
 
@@ -65,7 +65,7 @@ bytes_for-append n bs s h =
 pub bytes-append : (bs : List ℕ) (s : List Bool) → AreBytes bs → bytes (bits_of bs ++ s) ≡ bs ++ bytes s
 bytes-append bs s h =
     let e : byte_count (length (bits_of bs ++ s)) ≡ length bs + byte_count (length s) =
-        rw (length-append, length-bits_of) (omega arith) in
+    rw (length-append, length-bits_of) (omega arith) in
     ap (λ n. bytes_for n (bits_of bs ++ s)) e ∙ bytes_for-append (byte_count (length s)) bs s h
 
 -- ---- each undoes the other
@@ -110,8 +110,8 @@ pow-mul_of_8 (suc k) =
 byte-below : (bs : List ℕ) → AreBytes bs → (i : ℕ) → get_or bs i 0 < 256
 byte-below bs h i =
     elim (cases_lt i (length bs)) [
-      inl in' ↦ All-get_or (λ b. b < 256) bs i 0 in' h
-    | inr past ↦ rw (get_or_past bs i 0 past) (omega arith)
+      | inl in' ↦ All-get_or (λ b. b < 256) bs i 0 in' h
+      | inr past ↦ rw (get_or_past bs i 0 past) (omega arith)
     ]
 
 pub byte_at_is : (k n : ℕ) → byte_at k n ≡ n / 2 ^ (8 * k) % 256
@@ -147,14 +147,14 @@ bytes-padded n s out h all e =
     let m : ℕ = byte_count (length s) in
     let sum : 8 * m - length s + 8 * (n - m) ≡ 8 * n - length s = omega arith in
     let target : AreBytes (bytes s ++ replicate (n - m) 0) =
-        All-append (λ b. b < 256) (bytes s) (replicate (n - m) 0) (bytes-are_bytes s) (All-replicate (λ b. b < 256) (n - m) 0 (omega arith)) in
+    All-append (λ b. b < 256) (bytes s) (replicate (n - m) 0) (bytes-are_bytes s) (All-replicate (λ b. b < 256) (n - m) 0 (omega arith)) in
     bits_of-injective out (bytes s ++ replicate (n - m) 0) all target
     (e
-     ∙ sym
-       (bits_of-append (bytes s) (replicate (n - m) 0)
-        ∙ ap₂ (λ a b. a ++ b) (bits_of-bytes s) (bits_of-replicate_zero (n - m))
-        ∙ append_assoc s (replicate (8 * m - length s) false) (replicate (8 * (n - m)) false)
-        ∙ ap (λ t. s ++ t) (replicate-append-replicate (8 * m - length s) (8 * (n - m)) false ∙ ap (λ k. replicate k false) sum)))
+    ∙ sym
+    (bits_of-append (bytes s) (replicate (n - m) 0)
+    ∙ ap₂ (λ a b. a ++ b) (bits_of-bytes s) (bits_of-replicate_zero (n - m))
+    ∙ append_assoc s (replicate (8 * m - length s) false) (replicate (8 * (n - m)) false)
+    ∙ ap (λ t. s ++ t) (replicate-append-replicate (8 * m - length s) (8 * (n - m)) false ∙ ap (λ k. replicate k false) sum)))
 
 -- ---- parts of bytes
 

@@ -1,11 +1,10 @@
 -- What eight words that hold a string say, and what a write or a read of one word does to the string.
-use Rattle.std.proofs.Common.{◌≡◌, ℕ, zero, suc, ◌+◌, ◌-◌, ◌*◌, ◌/◌, ◌%◌, ◌^◌, ◌<◌, ◌≤◌, Bool, true, false, List, [], ◌∷◌, ◌++◌, length, take, drop, replicate, set, get_or, All, refl, sym, ap, ap₂, ◌∙◌, subst, arith, length-append, length-take, length-drop, get_or-set_same}
+use Rattle.std.proofs.Common.{◌≡◌, ℕ, ◌+◌, ◌-◌, ◌*◌, ◌/◌, ◌%◌, ◌^◌, ◌<◌, ◌≤◌, Bool, List, ◌++◌, length, take, drop, set, get_or, All, sym, ap, ◌∙◌, subst, arith, get_or-set_same}
 use Rattle.std.proofs.lemmas.Nat.{shl_whole}
 use Rattle.std.proofs.lemmas.List.{length-set}
 use Rattle.std.proofs.lemmas.List.Elements.{All-get_or}
-use Rattle.pos_bits.specs.Bits.{bits, number}
-use Rattle.pos_bits.specs.Blocks.{HoldsBits, bits_of_blocks, blocks, held_bits, length-bits, length-bits_of_blocks, length-blocks, length-held_bits}
-use Rattle.pos_bits.proofs.BitsLemmas.{inside-lt, number-bits}
+use Rattle.pos_bits.specs.Bits.{bits}
+use Rattle.pos_bits.specs.Blocks.{HoldsBits, blocks, held_bits, length-blocks, length-held_bits}
 use Rattle.pos_bits.proofs.BlocksLemmas.{bits-blocks, blocks-lt, set-blocks, take-bits_of_blocks}
 
 -- the words of a string hold it
@@ -34,7 +33,7 @@ module _ (words : List ℕ) (len : ℕ) (old : List Bool) (h : HoldsBits words l
       let q : ℕ = len / 64 in
       let r : ℕ = len % 64 in
       let shift : value * 2 ^ (64 - r - width) % 2 ^ 64 ≡ value * 2 ^ (64 - r - width) =
-          shl_whole value width (64 - r - width) 64 fits (omega arith) in
+      shl_whole value width (64 - r - width) 64 fits (omega arith) in
       rw (shift, held-words)
       (set-blocks 64 8 q r old value width (rw held-len (omega arith)) within (omega arith) fits)
 
@@ -47,7 +46,7 @@ module _ (words : List ℕ) (len : ℕ) (old : List Bool) (h : HoldsBits words l
       let inside : q < length words = rw held-eight (omega arith) in
       let after : blocks 64 8 (old ++ bits value width) ≡ set words q x = sym (held-push value width some fits room within) in
       let all : All (λ y. y < 2 ^ 64) (set words q x) =
-          subst (λ (xs : List ℕ). All (λ y. y < 2 ^ 64) xs) after (blocks-lt 64 8 (old ++ bits value width)) in
+      subst (λ (xs : List ℕ). All (λ y. y < 2 ^ 64) xs) after (blocks-lt 64 8 (old ++ bits value width)) in
       subst (λ y. y < 2 ^ 64) (get_or-set_same words q x 0 inside)
       (All-get_or (λ y. y < 2 ^ 64) (set words q x) q 0 (rw length-set inside) all)
 
@@ -62,4 +61,10 @@ module _ (words : List ℕ) (len : ℕ) (old : List Bool) (h : HoldsBits words l
       let most : len ≤ 512 = h.at_most in
       rw held-words
       (bits-blocks 64 8 q r old width within (rw held-len (omega arith)) (omega arith)
-       ∙ ap (λ k. take width (drop k old)) place)
+      ∙ ap (λ k. take width (drop k old)) place)
+
+-- equal words and lengths hold equal strings, and the other way round
+pub held-same :
+    (v w : List ℕ) (m n : ℕ) (s t : List Bool) → HoldsBits v m → HoldsBits w n → held_bits v m ≡ s → held_bits w n ≡ t →
+    s ≡ t → v ≡ w
+held-same v w m n s t h k a b e = held-words v m s h a ∙ ap (blocks 64 8) e ∙ sym (held-words w n t k b)

@@ -7,3 +7,4 @@ pub mod PiecesLemmas
 pub mod WindowLemmas
 pub mod AppendLemmas
 pub mod ReaderLemmas
+pub mod Worked

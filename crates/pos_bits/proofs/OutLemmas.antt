@@ -1,12 +1,12 @@
 -- Words written one after another into 64 bytes.
-use Rattle.std.proofs.Common.{◌≡◌, ℕ, zero, suc, ◌+◌, ◌-◌, ◌*◌, ◌<◌, ◌≤◌, Bool, false, List, [], ◌∷◌, ◌++◌, length, take, drop, replicate, get_or, refl, sym, ap, ap₂, ◌∙◌, subst, arith, rules, w64, take_all, length-append}
+use Rattle.std.proofs.Common.{◌≡◌, ℕ, ◌+◌, ◌-◌, ◌*◌, ◌<◌, ◌≤◌, Bool, List, [], ◌∷◌, ◌++◌, length, take, replicate, get_or, refl, sym, ap, ap₂, ◌∙◌, subst, arith, rules, w64, take_all}
 use Rattle.std.specs.Int.{to_be_bytes}
 use borrow.Rule.Slice.PartMut.{put_mid}
-use Rattle.std.proofs.lemmas.List.{places, take_more}
+use Rattle.std.proofs.lemmas.List.{take_more}
 use Rattle.std.proofs.lemmas.List.Elements.{All-append, All-nil}
 use Rattle.std.proofs.lemmas.Slice.{overwrites, take-put_mid}
-use Rattle.pos_bits.specs.Bits.{AreBytes, bits, bits_of, byte_count, bytes}
-use Rattle.pos_bits.specs.Blocks.{HoldsBits, bits_of_blocks, blocks, held_bits}
+use Rattle.pos_bits.specs.Bits.{AreBytes, bits_of, byte_count, bytes}
+use Rattle.pos_bits.specs.Blocks.{HoldsBits, bits_of_blocks, held_bits}
 use Rattle.pos_bits.proofs.BlocksLemmas.{bits_of_blocks-append, bits_of_blocks-blocks, bits_of_blocks-one}
 use Rattle.pos_bits.proofs.BytesLemmas.{bits_of-append, bits_of-to_be_bytes, bytes-padded, bytes_high_first-are_bytes}
 use Rattle.pos_bits.proofs.HeldLemmas.{held-eight, held-len, held-words}
@@ -29,18 +29,18 @@ WroteWords-more words out ys i w h l e =
     let x : ℕ = get_or words i 0 in
     let eight : length ys ≡ 8 = ap length e in
     let front : take (8 * (i + 1)) (put_mid (8 * i) (8 * i + 8 - 8 * i) out ys) ≡ take (8 * i) out ++ ys =
-        take-put_mid (8 * i) (8 * i + 8 - 8 * i) out ys (8 * (i + 1)) (omega arith) (omega (arith, w.len)) in
+    take-put_mid (8 * i) (8 * i + 8 - 8 * i) out ys (8 * (i + 1)) (omega arith) (omega (arith, w.len)) in
     let all : AreBytes ys = subst (λ (bs : List ℕ). AreBytes bs) (sym e) (bytes_high_first-are_bytes 8 x) in
     record {
       same_bits =
-        ap bits_of front
-        ∙ bits_of-append (take (8 * i) out) ys
-        ∙ ap₂ (λ a b. a ++ b) w.same_bits (ap bits_of e ∙ bits_of-to_be_bytes x ∙ sym (bits_of_blocks-one 64 x))
-        ∙ sym (bits_of_blocks-append 64 (take i words) (x ∷ []))
-        ∙ ap (bits_of_blocks 64) (sym (take_more words i 0 (omega arith)));
+          ap bits_of front
+          ∙ bits_of-append (take (8 * i) out) ys
+          ∙ ap₂ (λ a b. a ++ b) w.same_bits (ap bits_of e ∙ bits_of-to_be_bytes x ∙ sym (bits_of_blocks-one 64 x))
+          ∙ sym (bits_of_blocks-append 64 (take i words) (x ∷ []))
+          ∙ ap (bits_of_blocks 64) (sym (take_more words i 0 (omega arith)));
       are_bytes =
-        subst (λ (bs : List ℕ). AreBytes bs) (sym front) (All-append (λ b. b < 256) (take (8 * i) out) ys w.are_bytes all);
-      len = let r : length out ≡ 64 = w.len in search (rules, overwrites)
+          subst (λ (bs : List ℕ). AreBytes bs) (sym front) (All-append (λ b. b < 256) (take (8 * i) out) ys w.are_bytes all);
+      len = let r : length out ≡ 64 = w.len in search (rules, overwrites);
     }
 
 pub WroteWords-all :

@@ -1,38 +1,29 @@
 -- Strings and numbers read or written piece by piece.
-use Rattle.std.proofs.Common.{◌≡◌, ℕ, zero, suc, ◌+◌, ◌-◌, ◌*◌, ◌/◌, ◌%◌, ◌^◌, ◌<◌, ◌≤◌, Bool, List, [], ◌∷◌, ◌++◌, length, take, drop, refl, sym, ap, ap₂, ◌∙◌, subst, arith, length-append, length-drop, length-take, take-add, drop-drop, append-nil, append_assoc, pow-add, pow_mono, lt_of_lt_of_le}
-use Rattle.std.proofs.lemmas.Nat.{mul-add-lt, shl_whole, shr-shr}
+use Rattle.std.proofs.Common.{◌≡◌, ℕ, ◌+◌, ◌-◌, ◌*◌, ◌/◌, ◌%◌, ◌^◌, ◌<◌, ◌≤◌, Bool, List, ◌++◌, length, take, drop, refl, sym, ap, ap₂, ◌∙◌, subst, arith, length-drop, length-take, take-add, drop-drop, append-nil, append_assoc, pow-add, pow_mono, lt_of_lt_of_le}
+use Rattle.std.proofs.lemmas.Nat.{mul-add-lt, shl_whole, shr_below}
 use Rattle.pos_bits.specs.Bits.{bits, number}
-use Rattle.pos_bits.specs.Blocks.{length-bits}
 use Rattle.pos_bits.proofs.BitsLemmas.{bits-append, bits-mod, bits-none, bits-number, bits-split, number-append}
 
 -- ---- a value is written from its top
 
--- the string so far has the digits above the lowest `left`
-pub put-none : (old : List Bool) (value width : ℕ) → old ≡ old ++ bits (value / 2 ^ width) (width - width)
-put-none old value width =
-    let e : width - width ≡ 0 = omega arith in
-    rw (e, bits-none (value / 2 ^ width), append-nil old) refl
+-- the top of a value
+pub top-lt : (value width room : ℕ) → value < 2 ^ width → room ≤ width → value / 2 ^ (width - room) < 2 ^ room
+top-lt value width room v h =
+    let e : width ≡ room + (width - room) = omega arith in
+    shr_below value room (width - room) (subst (λ k. value < 2 ^ k) e v)
 
-pub put-more :
-    (old now new : List Bool) (value width left count : ℕ) → count ≤ left → left ≤ width →
-    now ≡ old ++ bits (value / 2 ^ left) (width - left) → new ≡ now ++ bits (value / 2 ^ (left - count) % 2 ^ count) count →
-    new ≡ old ++ bits (value / 2 ^ (left - count)) (width - (left - count))
-put-more old now new value width left count h w before after =
-    let rest : ℕ = left - count in
-    let e : rest + count ≡ left = omega arith in
-    let size : (width - left) + count ≡ width - rest = omega arith in
-    let high : value / 2 ^ left ≡ value / 2 ^ rest / 2 ^ count =
-        ap (λ k. value / 2 ^ k) (sym e) ∙ sym (shr-shr value rest count) in
-    after
-    ∙ ap₂ (λ a b. a ++ b) before (bits-mod (value / 2 ^ rest) count)
-    ∙ append_assoc old (bits (value / 2 ^ left) (width - left)) (bits (value / 2 ^ rest) count)
-    ∙ ap (λ t. old ++ t)
-      (ap (λ x. bits x (width - left) ++ bits (value / 2 ^ rest) count) high
-       ∙ sym (bits-split (value / 2 ^ rest) (width - left) count)
-       ∙ ap (bits (value / 2 ^ rest)) size)
+-- the top of a value is put, and then its low digits
+pub two-appended :
+    (start middle end : List Bool) (value width top left low : ℕ) → top + left ≡ width → middle ≡ start ++ bits (value / 2 ^ left) top →
+    low ≡ value % 2 ^ left → end ≡ middle ++ bits low left → end ≡ start ++ bits value width
+two-appended start middle end value width top left low size first l second =
+    second
+    ∙ ap₂ (λ a b. a ++ b) first (ap (λ x. bits x left) l ∙ bits-mod value left)
+    ∙ append_assoc start (bits (value / 2 ^ left) top) (bits value left)
+    ∙ ap (λ t. start ++ t) (sym (bits-split value top left) ∙ ap (bits value) size)
 
-pub length-put : (old now : List Bool) (x n : ℕ) → now ≡ old ++ bits x n → length now ≡ length old + n
-length-put old now x n e = ap length e ∙ rw (length-append, length-bits) refl
+pub none-put : (old : List Bool) (value width : ℕ) → width ≡ 0 → old ≡ old ++ bits value width
+none-put old value width e = rw (e, bits-none value, append-nil old) refl
 
 -- ---- a number is read from its top
 
@@ -64,11 +55,21 @@ joined-fits z value done count low v l h =
     rw (shifted z value done count v h) (lt_of_lt_of_le (joined-lt value done count low v l) (pow_mono h))
 
 pub number-more :
-    (s : List Bool) (start done count value low : ℕ) → start + done + count ≤ length s → done + count ≤ 128 →
+    (z : ℕ) (s : List Bool) (start done count value low width : ℕ) → done + count ≡ width → start + done + count ≤ length s → width ≤ z →
     value < 2 ^ done → value ≡ number (take done (drop start s)) → low ≡ number (take count (drop (start + done) s)) →
-    value * 2 ^ count % 2 ^ 128 + low ≡ number (take (done + count) (drop start s))
-number-more s start done count value low there h v is low_is =
-    rw (shifted 128 value done count v h, part-more s start done count, number-append (take done (drop start s)) (take count (drop (start + done) s)), length-part s (start + done) count there, ← is, ← low_is) refl
+    value * 2 ^ count % 2 ^ z + low ≡ number (take width (drop start s))
+number-more z s start done count value low width e there h v is low_is =
+    rw (shifted z value done count v (omega arith), ← e, part-more s start done count, number-append (take done (drop start s)) (take count (drop (start + done) s)), length-part s (start + done) count there, ← is, ← low_is) refl
+
+pub number-more_lt :
+    (z value done count low width : ℕ) → done + count ≡ width → width ≤ z → value < 2 ^ done → low < 2 ^ count →
+    value * 2 ^ count % 2 ^ z + low < 2 ^ width
+number-more_lt z value done count low width e h v l =
+    rw (shifted z value done count v (omega arith)) (subst (λ k. value * 2 ^ count + low < 2 ^ k) e (joined-lt value done count low v l))
+
+pub number-none : (s : List Bool) (start width : ℕ) → width ≡ 0 → 0 ≡ number (take width (drop start s))
+unfolding number
+number-none s start width e = rw e refl
 
 -- one more piece of a part is put behind what was put so far
 pub piece-more :
@@ -98,8 +99,8 @@ take-more s now new value low width left count h w m v l before after =
     ∙ ap (λ t. bits value (width - left) ++ t) after
     ∙ sym (append_assoc (bits value (width - left)) (bits low count) new)
     ∙ ap (λ t. t ++ new)
-      (sym (bits-append value low (width - left) count l)
-       ∙ ap₂ bits (ap (λ x. x + low) (sym (shifted 128 value (width - left) count v (omega arith)))) size)
+    (sym (bits-append value low (width - left) count l)
+    ∙ ap₂ bits (ap (λ x. x + low) (sym (shifted 128 value (width - left) count v (omega arith)))) size)
 
 pub take-more_lt :
     (value low width left count : ℕ) → count ≤ left → left ≤ width → width ≤ 128 → value < 2 ^ (width - left) → low < 2 ^ count →

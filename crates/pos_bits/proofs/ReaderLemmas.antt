@@ -1,12 +1,11 @@
 -- What a window of 64 bits at any bit says of the bits that are left.
-use Rattle.std.proofs.Common.{◌≡◌, ℕ, zero, suc, ◌+◌, ◌-◌, ◌*◌, ◌/◌, ◌%◌, ◌^◌, ◌<◌, ◌≤◌, min, Bool, true, false, List, [], ◌∷◌, ◌++◌, length, take, drop, replicate, refl, sym, ap, ap₂, ◌∙◌, subst, arith, w64, append_assoc, length-append, length-drop, length-take, take-append-drop, drop-drop, take-take, pow-add, pow-suc, pow_pos, add-one, add_assoc}
+use Rattle.std.proofs.Common.{◌≡◌, ℕ, zero, suc, ◌+◌, ◌-◌, ◌*◌, ◌/◌, ◌%◌, ◌^◌, ◌<◌, ◌≤◌, min, Bool, true, false, List, [], ◌∷◌, ◌++◌, length, take, drop, replicate, refl, sym, ap, ap₂, ◌∙◌, subst, arith, w64, append_assoc, length-append, length-drop, take-append-drop, drop-drop, take-take, pow-add, pow_pos, add_assoc}
 use Rattle.std.specs.Int.{leading_ones}
-use lib.Count.{count_leading_zeros}
 use Rattle.std.proofs.lemmas.Nat.{leading_length, shr_high}
-use Rattle.std.proofs.lemmas.List.{append_cancel_left, drop-append-le, drop-take, length-replicate, replicate-append-replicate, take-append-le, take-replicate}
+use Rattle.std.proofs.lemmas.List.{drop-append-le, drop-take, length-replicate, replicate-append-replicate, take-append-le, take-replicate}
 use Rattle.pos_bits.specs.Bits.{bits, bits_of}
 use Rattle.pos_bits.specs.Blocks.{length-bits}
-use Rattle.pos_bits.proofs.BitsLemmas.{bits-append, bits-ones, bits-shl, bits-split, bits-zero, take-bits}
+use Rattle.pos_bits.proofs.BitsLemmas.{bits-append, bits-ones, bits-shl, bits-zero, take-bits}
 use Rattle.pos_bits.proofs.BytesLemmas.{drop-bits_of, length-bits_of}
 use Rattle.pos_bits.proofs.WindowLemmas.{bits_from}
 
@@ -28,16 +27,16 @@ window-shifted bs at window h e =
     let rest : List Bool = bits_of (drop q bs) in
     let fits : o ≤ length rest = rw (length-bits_of, length-drop) (omega arith) in
     let shifted : bits (window * 2 ^ o % 2 ^ 64) 64 ≡ drop o (bits window 64) ++ replicate o false =
-        subst (λ k. bits (window * 2 ^ o % 2 ^ k) k ≡ drop o (bits window 64) ++ replicate o false) size
-        (subst (λ k. bits (window * 2 ^ o % 2 ^ (n + o)) (n + o) ≡ drop o (bits window k) ++ replicate o false) turned (bits-shl window n o)) in
+    subst (λ k. bits (window * 2 ^ o % 2 ^ k) k ≡ drop o (bits window 64) ++ replicate o false) size
+    (subst (λ k. bits (window * 2 ^ o % 2 ^ (n + o)) (n + o) ≡ drop o (bits window k) ++ replicate o false) turned (bits-shl window n o)) in
     let long : 57 ≤ length (drop o (bits window 64)) = rw (length-drop, length-bits) (omega arith) in
     let inner : drop o (bits window 64) ≡ take n (drop o rest ++ replicate 64 false) =
-        ap (drop o) e
-        ∙ ap (λ k. drop o (take k (rest ++ replicate 64 false))) (sym turned)
-        ∙ drop-take o n (rest ++ replicate 64 false)
-        ∙ ap (take n) (drop-append-le o rest (replicate 64 false) fits) in
+    ap (drop o) e
+    ∙ ap (λ k. drop o (take k (rest ++ replicate 64 false))) (sym turned)
+    ∙ drop-take o n (rest ++ replicate 64 false)
+    ∙ ap (take n) (drop-append-le o rest (replicate 64 false) fits) in
     let here : drop o rest ≡ drop at (bits_of bs) =
-        ap (drop o) (sym (drop-bits_of q bs)) ∙ drop-drop o (8 * q) (bits_of bs) ∙ ap (λ k. drop k (bits_of bs)) place in
+    ap (drop o) (sym (drop-bits_of q bs)) ∙ drop-drop o (8 * q) (bits_of bs) ∙ ap (λ k. drop k (bits_of bs)) place in
     ap (take 57) shifted
     ∙ take-append-le 57 (drop o (bits window 64)) (replicate o false) long
     ∙ ap (take 57) inner
@@ -54,11 +53,11 @@ next-bits bs at window width w there e =
     let size : width + low ≡ 64 = omega arith in
     let s : List Bool = drop at (bits_of bs) in
     let front : bits (window / 2 ^ low) width ≡ take width s =
-        sym (subst (λ k. take width (bits window k) ≡ bits (window / 2 ^ low) width) size (take-bits window width low))
-        ∙ sym (take-take width 57 (bits window 64) (omega arith))
-        ∙ ap (take width) e
-        ∙ take-take width 57 (bits_at bs at) (omega arith)
-        ∙ take-append-le width s (replicate 64 false) (rw (length-drop, length-bits_of) (omega arith)) in
+    sym (subst (λ k. take width (bits window k) ≡ bits (window / 2 ^ low) width) size (take-bits window width low))
+    ∙ sym (take-take width 57 (bits window 64) (omega arith))
+    ∙ ap (take width) e
+    ∙ take-take width 57 (bits_at bs at) (omega arith)
+    ∙ take-append-le width s (replicate 64 false) (rw (length-drop, length-bits_of) (omega arith)) in
     sym (take-append-drop width s) ∙ ap₂ (λ a b. a ++ b) (sym front) (drop-drop width at (bits_of bs))
 
 -- ---- runs of ones
@@ -131,7 +130,7 @@ zero-within zero (b ∷ s) k l h = let first : b ≡ false = cc in ap (λ c. c �
 zero-within (suc n) (b ∷ s) k l h =
     let e : suc n + 1 ≡ suc (n + 1) = omega arith in
     let h' : take (suc (n + 1)) ((b ∷ s) ++ replicate k false) ≡ replicate (suc n) true ++ false ∷ [] =
-        subst (λ m. take m ((b ∷ s) ++ replicate k false) ≡ replicate (suc n) true ++ false ∷ []) e h in
+    subst (λ m. take m ((b ∷ s) ++ replicate k false) ≡ replicate (suc n) true ++ false ∷ []) e h in
     let rest : take (n + 1) (s ++ replicate k false) ≡ replicate n true ++ false ∷ [] = cc in
     zero-within n s k (omega arith) rest ∙ ap (λ m. false ∷ drop m (b ∷ s)) (sym e)
 
@@ -143,12 +142,12 @@ window-ones bs at window c h e m =
     let s : List Bool = drop at (bits_of bs) in
     let all : ℕ = leading_ones w64 window in
     let front : take c (s ++ replicate 64 false) ≡ replicate c true =
-        sym (take-take c 57 (s ++ replicate 64 false) (omega arith))
-        ∙ ap (take c) (sym e)
-        ∙ take-take c 57 (bits window 64) (omega arith)
-        ∙ sym (take-take c all (bits window 64) (omega arith))
-        ∙ ap (take c) (take-leading_ones window h)
-        ∙ take-replicate c all true (omega arith) in
+    sym (take-take c 57 (s ++ replicate 64 false) (omega arith))
+    ∙ ap (take c) (sym e)
+    ∙ take-take c 57 (bits window 64) (omega arith)
+    ∙ sym (take-take c all (bits window 64) (omega arith))
+    ∙ ap (take c) (take-leading_ones window h)
+    ∙ take-replicate c all true (omega arith) in
     ones-within c s 64 front ∙ ap (λ t. replicate c true ++ t) (drop-drop c at (bits_of bs))
 
 pub window-zero :
@@ -158,10 +157,10 @@ window-zero bs at window c h e m few there =
     let s : List Bool = drop at (bits_of bs) in
     let all : c ≡ leading_ones w64 window = omega arith in
     let front : take (c + 1) (s ++ replicate 64 false) ≡ replicate c true ++ false ∷ [] =
-        sym (take-take (c + 1) 57 (s ++ replicate 64 false) (omega arith))
-        ∙ ap (take (c + 1)) (sym e)
-        ∙ take-take (c + 1) 57 (bits window 64) (omega arith)
-        ∙ rw all (take-leading_ones_more window h (omega arith)) in
+    sym (take-take (c + 1) 57 (s ++ replicate 64 false) (omega arith))
+    ∙ ap (take (c + 1)) (sym e)
+    ∙ take-take (c + 1) 57 (bits window 64) (omega arith)
+    ∙ rw all (take-leading_ones_more window h (omega arith)) in
     let next : drop c s ≡ false ∷ drop (c + 1) s = zero-within c s 64 (rw (length-drop, length-bits_of) (omega arith)) front in
     sym (drop-drop c at (bits_of bs)) ∙ next ∙ ap (λ t. false ∷ t) (drop-drop (c + 1) at (bits_of bs) ∙ ap (λ k. drop k (bits_of bs)) (sym (add_assoc at c 1)))
 

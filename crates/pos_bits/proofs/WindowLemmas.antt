@@ -1,5 +1,5 @@
 -- The eight bytes that begin at a place, with zeros past the end, as one number.
-use Rattle.std.proofs.Common.{◌≡◌, ℕ, zero, suc, ◌+◌, ◌-◌, ◌*◌, ◌/◌, ◌%◌, ◌^◌, ◌<◌, ◌≤◌, Bool, false, List, [], ◌∷◌, ◌++◌, length, take, drop, replicate, get_or, All, refl, sym, ap, ap₂, ◌∙◌, subst, arith, w64, length-append, length-drop, length-take, take-append-drop, add-zero, get_or-drop, pow-add, pow_mono, lt_of_lt_of_le, take-add}
+use Rattle.std.proofs.Common.{◌≡◌, ℕ, ◌+◌, ◌-◌, ◌*◌, ◌/◌, ◌^◌, ◌<◌, ◌≤◌, Bool, false, List, [], ◌∷◌, ◌++◌, length, take, drop, replicate, get_or, refl, sym, ap, ap₂, ◌∙◌, subst, arith, w64, length-append, length-drop, length-take, get_or-drop, pow-add, pow_mono, lt_of_lt_of_le, take-add}
 use Rattle.std.specs.Int.{from_be_bytes}
 use Rattle.std.proofs.lemmas.Nat.{mul-add-lt, shr_below}
 use Rattle.std.proofs.lemmas.List.{get_or-append_right, get_or-replicate, get_or_append_left, length-replicate, take-append-le, take-take, take_more}
@@ -46,16 +46,16 @@ ReadBytes-step :
 ReadBytes-step bs at i window byte r h b e =
     let size : 8 * (i + 1) ≡ 8 * i + 8 = omega arith in
     let more : take (i + 1) (bytes_from bs at) ≡ take i (bytes_from bs at) ++ (byte ∷ []) =
-        take_more (bytes_from bs at) i 0 (rw length-append (omega (arith, length-replicate {A = ℕ} 8 0)))
-        ∙ ap (λ y. take i (bytes_from bs at) ++ (y ∷ [])) (sym e) in
+    take_more (bytes_from bs at) i 0 (rw length-append (omega (arith, length-replicate {A = ℕ} 8 0)))
+    ∙ ap (λ y. take i (bytes_from bs at) ++ (y ∷ [])) (sym e) in
     record {
       below = rw (size, pow-add 2 (8 * i) 8) (omega (arith, mul-add-lt window 256 byte (2 ^ (8 * i)) r.below b));
       same_bits =
-        ap (bits (window * 256 + byte)) size
-        ∙ bits-append window byte (8 * i) 8 b
-        ∙ ap₂ (λ s t. s ++ t) r.same_bits (sym (bits_of-one byte))
-        ∙ sym (bits_of-append (take i (bytes_from bs at)) (byte ∷ []))
-        ∙ ap bits_of (sym more)
+          ap (bits (window * 256 + byte)) size
+          ∙ bits-append window byte (8 * i) 8 b
+          ∙ ap₂ (λ s t. s ++ t) r.same_bits (sym (bits_of-one byte))
+          ∙ sym (bits_of-append (take i (bytes_from bs at)) (byte ∷ []))
+          ∙ ap bits_of (sym more);
     }
 
 pub ReadBytes-inside :

@@ -1,6 +1,6 @@
 -- A bit string held in blocks of equally many bits, as bytes of 8 or words of 64. This is how values of this crate are
 -- kept inside; no public clause speaks of it.
-use Rattle.std.specs.Prelude.{ℕ, zero, suc, ◌+◌, ◌*◌, ◌≡◌, ◌≤◌, Bool, false, List, [], ◌∷◌, ◌++◌, length, take, drop, replicate, refl}
+use Rattle.std.specs.Prelude.{ℕ, zero, suc, ◌*◌, ◌≡◌, ◌≤◌, Bool, false, List, [], ◌∷◌, ◌++◌, length, take, drop, replicate, refl}
 use Rattle.std.proofs.Common.{ap, ◌∙◌, arith, length-append, length-take}
 use Rattle.pos_bits.specs.Bits.{bits, number}
 

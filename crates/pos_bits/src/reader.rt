@@ -6,7 +6,7 @@ use crate::window::bits_at_byte;
 use std::marker::Model;
 
 // So many bits a window of eight bytes has at any place of its first byte.
-const FULL: u32 = 57;
+const WINDOW_BITS: u32 = 57;
 
 /// Reads the bits of bytes one after another. Contracts see the list of the bits that are left. No call takes memory.
 #[derive(Drop)]
@@ -106,7 +106,7 @@ fn ones_from(bytes: &[u8], at: u64) -> u64
     while at + ones < end {
         let count = ones_at(bytes, at + ones);
         ones += count as u64;
-        if count < FULL {
+        if count < WINDOW_BITS {
             return ones;
         }
     }
@@ -119,11 +119,11 @@ fn ones_at(bytes: &[u8], at: u64) -> u32
     requires few { length bytes.now < 2 ^ 40 }
     requires within { at ≤ 8 * length bytes.now }
     ensures ones { drop at (bits_of bytes.now) ≡ replicate result true ++ drop (at + result) (bits_of bytes.now) }
-    ensures next { result < FULL → at + result < 8 * length bytes.now → drop (at + result) (bits_of bytes.now) ≡ false ∷ drop (at + result + 1) (bits_of bytes.now) }
+    ensures next { result < WINDOW_BITS → at + result < 8 * length bytes.now → drop (at + result) (bits_of bytes.now) ≡ false ∷ drop (at + result + 1) (bits_of bytes.now) }
     ensures within { at + result ≤ 8 * length bytes.now }
-    ensures at_most { result ≤ FULL }
+    ensures at_most { result ≤ WINDOW_BITS }
 {
-    window_at(bytes, at).leading_ones().min(FULL)
+    window_at(bytes, at).leading_ones().min(WINDOW_BITS)
 }
 
 // The 64 bits from bit `at` on. The first 57 are those of the bytes, or 0 bits past their end.
@@ -131,7 +131,7 @@ fn ones_at(bytes: &[u8], at: u64) -> u32
 fn window_at(bytes: &[u8], at: u64) -> u64
     requires few { length bytes.now < 2 ^ 40 }
     requires within { at ≤ 8 * length bytes.now }
-    ensures { take FULL (bits result 64) ≡ take FULL (drop at (bits_of bytes.now) ++ replicate 64 false) }
+    ensures { take WINDOW_BITS (bits result 64) ≡ take WINDOW_BITS (drop at (bits_of bytes.now) ++ replicate 64 false) }
 {
     bits_at_byte(bytes, (at / 8) as usize) << (at % 8)
 }

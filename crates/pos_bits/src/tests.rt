@@ -1,4 +1,4 @@
-ghost use Rattle.std.specs.Prelude.{◌^◌, ◌<◌, ◌≤◌};
+ghost use Rattle.std.specs.Prelude.{◌≡◌, ◌^◌, ◌<◌, ◌≤◌, length};
 
 use crate::{BitReader, BitString, BitWriter};
 use std::test::Fail;
@@ -6,6 +6,7 @@ use std::test::Fail;
 fn string_of(value: u128, width: u32) -> BitString
     requires width_fits { width ≤ 128 }
     requires value_fits { value < 2 ^ width }
+    ensures { length result ≡ width }
 {
     let mut string = BitString::empty();
     string.push(value, width);
@@ -37,6 +38,7 @@ fn a_string_is_joined_and_cut_at_any_place(rt: HostRuntime) {
     assert_eq!(rt; part.number(0, 76), 0x123456789abcdef0123);
     assert!(rt; !part.is_empty());
     string.join(&part);
+    assert_eq!(rt; string.part(120, 76), part);
     assert_eq!(rt; string.number(112, 84), 0xcd123456789abcdef0123);
 }
 

@@ -1,5 +1,5 @@
 // Eight bytes of a slice as one number, the unit in which bits are read.
-ghost use Rattle.std.specs.Prelude.{◌≡◌, ◌++◌, ◌^◌, ◌<◌, ◌≤◌, false, drop, length, replicate, take};
+ghost use Rattle.std.specs.Prelude.{◌≡◌, ◌++◌, ◌^◌, ◌<◌, ◌≤◌, ◌%◌, false, drop, length, replicate, take};
 ghost use Rattle.pos_bits.specs.Bits.{bits, bits_of};
 
 /// The 64 bits that begin at byte `at`, as a number. There are 0 bits past the end of the bytes.
@@ -10,7 +10,9 @@ pub fn bits_at_byte(bytes: &[u8], at: usize) -> u64
 {
     if bytes.len() - at >= 8 {
         let eight = &bytes[at..at + 8];
-        u64::from_be_bytes([eight[0], eight[1], eight[2], eight[3], eight[4], eight[5], eight[6], eight[7]])
+        u64::from_be_bytes([
+            eight[0], eight[1], eight[2], eight[3], eight[4], eight[5], eight[6], eight[7],
+        ])
     } else {
         bits_at_end(bytes, at)
     }
@@ -31,4 +33,13 @@ fn bits_at_end(bytes: &[u8], at: usize) -> u64
         window = window * 256 + byte as u64;
     }
     window
+}
+
+/// The number that the low bits write.
+#[inline(always)]
+pub fn low_bits(value: u64, width: u32) -> u64
+    requires { width < 64 }
+    ensures { result ≡ value % 2 ^ width }
+{
+    value & ((1 << width) - 1)
 }

@@ -4,6 +4,7 @@ ghost use Rattle.pos_bits.specs.Bits.{bits, bits_of, bytes as bytes_of_bits};
 ghost use Rattle.pos_bits.specs.Written.{IsTail};
 
 use crate::Memory;
+use crate::window::low_bits;
 use std::alloc::Global;
 use std::marker::Model;
 
@@ -152,13 +153,4 @@ fn append_last(bytes: &mut Vec<u8>, rest: u64, fill: u32)
     let Ok(()) = bytes.extend_from_slice(&last[..(fill as usize + 7) / 8]) else {
         unreachable!()
     };
-}
-
-// The number that the low bits write.
-#[inline(always)]
-fn low_bits(value: u64, width: u32) -> u64
-    requires { width < 64 }
-    ensures { result ≡ value % 2 ^ width }
-{
-    value & ((1 << width) - 1)
 }

@@ -1,13 +1,14 @@
 -- The values of a proof, read one after another from its bits.
-use Rattle.std.proofs.Common.{◌≡◌, ℕ, zero, suc, ◌+◌, ◌-◌, ◌*◌, ◌^◌, ◌<◌, ◌≤◌, Bool, List, [], ◌∷◌, ◌++◌, length, take, refl, sym, ap, ◌∙◌, subst, arith, append_assoc, length-append, add-one, add_comm}
+use Rattle.std.proofs.Common.{◌≡◌, ℕ, zero, suc, ◌+◌, ◌-◌, ◌*◌, ◌^◌, ◌<◌, ◌≤◌, Bool, List, [], ◌∷◌, ◌++◌, length, take, drop, take_at, drop_at, ap₂, refl, sym, ap, ◌∙◌, subst, arith, append_assoc, length-append, add-one, add_comm}
 use Rattle.std.proofs.Math.Nat.{mul-suc, mul-le-mul_left}
 use Rattle.std.specs.Prelude.{All, slice_set}
 use Rattle.std.proofs.lemmas.List.Elements.{All-push}
 use Rattle.std.proofs.lemmas.List.{take_all, nil_from_length, append-nil, length-set}
 use Rattle.std.proofs.Math.Seq.{take-suc-set}
-use Rattle.pos_bits.specs.Bits.{bits, bits_of, bytes, AreBytes}
+use Rattle.pos_bits.specs.Bits.{bits, bits_of, bytes, byte_count, number, AreBytes}
 use Rattle.pos_bits.specs.Blocks.{length-bits}
-use Rattle.pos_bits.proofs.BytesLemmas.{bytes-bits_of}
+use Rattle.pos_bits.proofs.BytesLemmas.{bytes-bits_of, bytes-injective, length-bytes}
+use Rattle.pos_bits.proofs.BitsLemmas.{number-bits}
 use Rattle.pos_order.specs.Values.{value_bits, value_bytes, WritesValues}
 
 pub value_bits-append : (k : ℕ) (xs ys : List ℕ) → value_bits k (xs ++ ys) ≡ value_bits k xs ++ value_bits k ys
@@ -88,3 +89,43 @@ read-some k proof values i left inside h =
     let rows : k * (i + 1) ≤ k * 64 = mul-le-mul_left k (omega arith) in
     let more : k * (i + 1) ≡ k * i + k = rw add-one (mul-suc k i) in
     omega (arith, h.rest)
+
+-- ---- bytes write the values of one list at most
+
+same_front : (s t a b : List Bool) → length s ≡ length t → s ++ a ≡ t ++ b → (s ≡ t) × (a ≡ b)
+same_front s t a b e f = (
+  sym (take_at s a (length s) refl) ∙ ap (take (length s)) f ∙ take_at t b (length s) (sym e),
+  sym (drop_at s a (length s) refl) ∙ ap (drop (length s)) f ∙ drop_at t b (length s) (sym e),
+)
+
+value_bits-injective :
+    (k : ℕ) (xs ys : List ℕ) → length xs ≡ length ys → All (λ x. x < 2 ^ k) xs → All (λ x. x < 2 ^ k) ys
+    → value_bits k xs ≡ value_bits k ys → xs ≡ ys
+unfolding value_bits
+value_bits-injective k [] [] l a b e = refl
+value_bits-injective k [] (y ∷ ys) l a b e = absurd (omega arith)
+value_bits-injective k (x ∷ xs) [] l a b e = absurd (omega arith)
+value_bits-injective k (x ∷ xs) (y ∷ ys) l a b e =
+    let parts = same_front (bits x k) (bits y k) (value_bits k xs) (value_bits k ys) (length-bits x k ∙ sym (length-bits y k)) e in
+    let first : x ≡ y =
+    sym (number-bits x k (a 0 0 (omega arith))) ∙ ap number parts.0 ∙ number-bits y k (b 0 0 (omega arith))
+    in
+    ap₂ (λ v vs. v ∷ vs) first
+    (value_bits-injective k xs ys (omega arith) (λ i d h. a (suc i) d (omega arith)) (λ i d h. b (suc i) d (omega arith)) parts.1)
+
+pub writes_values-one : (k : ℕ) (xs ys proof : List ℕ) → WritesValues k xs proof → WritesValues k ys proof → xs ≡ ys
+unfolding value_bytes
+writes_values-one k xs ys proof h g =
+    let lens : length xs ≡ length ys = h.count ∙ sym g.count in
+    let bits_len : length (value_bits k xs) ≡ length (value_bits k ys) =
+    length-value_bits k xs ∙ ap (λ n. k * n) lens ∙ sym (length-value_bits k ys)
+    in
+    value_bits-injective k xs ys lens h.small g.small
+    (bytes-injective (value_bits k xs) (value_bits k ys) bits_len (sym h.written ∙ g.written))
+
+-- 64 values of k bits are 8 * k bytes
+pub length-written : (k : ℕ) (xs proof : List ℕ) → WritesValues k xs proof → length proof ≡ 8 * k
+unfolding value_bytes
+length-written k xs proof h =
+    ap length h.written ∙ length-bytes (value_bits k xs)
+    ∙ ap byte_count (length-value_bits k xs ∙ ap (λ n. k * n) h.count) ∙ omega arith

@@ -1,5 +1,4 @@
-use Rattle.std.proofs.Common.{◌≡◌, ◌+◌, ◌-◌, ◌*◌, ◌<◌, ◌≤◌, ℕ, min, ap, length, ◌∙◌, arith, length-drop}
-use Rattle.std.specs.Int.{leading_ones}
+use Rattle.std.proofs.Common.{min, ap, ◌∙◌, arith, length-drop}
 use Rattle.pos_bits.specs.Bits.{bits_of}
 use Rattle.pos_bits.proofs.BytesLemmas.{length-bits_of}
 use Rattle.pos_bits.proofs.ReaderLemmas.{ones-fit, window-ones, window-zero}

@@ -1,4 +1,4 @@
-use Rattle.std.proofs.Common.{◌≡◌, ◌+◌, ◌-◌, ◌<◌, ℕ, take, drop, refl, ap, ◌∙◌, arith}
+use Rattle.std.proofs.Common.{◌≡◌, ◌+◌, ◌-◌, ℕ, take, drop, ap, ◌∙◌, arith}
 use Rattle.pos_bits.specs.Bits.{AreBytes, bits}
 use Rattle.pos_bits.proofs.BytesLemmas.{AreBytes-from_reads, AreBytes-part}
 use Rattle.pos_bits.proofs.WindowLemmas.{bits-eight}
@@ -11,4 +11,4 @@ returns-then-bytes-at-ge8 c =
     let all : AreBytes c.args.bytes.now = AreBytes-from_reads c.args.bytes.now (λ i _. omega (arith, c.type_inv.bytes i)) in
     ap (λ x. bits x 64) c.from_be_bytes.ensures
     ∙ bits-eight c.args.bytes.now (take n (drop c.args.at c.args.bytes.now)) c.args.at (omega arith)
-      (AreBytes-part c.args.bytes.now c.args.at n all) (ap (λ k. take k (drop c.args.at c.args.bytes.now)) size)
+    (AreBytes-part c.args.bytes.now c.args.at n all) (ap (λ k. take k (drop c.args.at c.args.bytes.now)) size)

@@ -1,8 +1,7 @@
-use Rattle.std.proofs.Common.{◌≡◌, ◌+◌, ◌-◌, ◌*◌, ◌%◌, ◌/◌, ◌^◌, ◌<◌, ◌≤◌, ◌++◌, ℕ, refl, ap, sym, ◌∙◌, arith, rules, append_assoc, w64}
-use Rattle.std.specs.Int.{to_be_bytes}
+use Rattle.std.proofs.Common.{◌-◌, ◌/◌, ◌^◌, ◌++◌, ap, sym, ◌∙◌, arith, rules, append_assoc}
 use Rattle.pos_bits.specs.Bits.{bits, bits_of}
-use Rattle.pos_bits.proofs.AppendLemmas.{low-lt, rest-joined, rest-joined_lt, top-lt, word-appended, word-of_one, word-of_two}
-use Rattle.pos_bits.proofs.PiecesLemmas.{joined-fits}
+use Rattle.pos_bits.proofs.AppendLemmas.{rest-joined, rest-joined_lt, word-appended, word-of_one, word-of_two}
+use Rattle.pos_bits.proofs.PiecesLemmas.{joined-fits, top-lt}
 use Rattle.pos_bits.proofs.writer.append.Goals as goal
 use Rattle.pos_bits.proofs.writer.append.Goals.{else-room-lt64, then-room-lt64}
 
@@ -32,7 +31,7 @@ returns-clause-bits c =
     c.requires.fill_fits c.if-width-room.false
     (c.in-Ok.ensures.items ∙ ap (λ bs. c.args.bytes.now.items ++ bs) c.to_be_bytes.ensures)
     (elim c.if-room-lt64.branch [
-      then-room-lt64 w ↦ ap (λ x. bits x 64) w.word-is ∙ word-of_two c.args.rest c.args.fill c.args.value c.args.width c.requires.fill_fits c.if-width-room.false c.requires.rest_fits c.requires.value_fits
-    | else-room-lt64 w ↦ ap (λ x. bits x 64) w.word-is ∙ word-of_one c.args.rest c.args.fill c.args.value c.args.width (omega arith)
+      | then-room-lt64 w ↦ ap (λ x. bits x 64) w.word-is ∙ word-of_two c.args.rest c.args.fill c.args.value c.args.width c.requires.fill_fits c.if-width-room.false c.requires.rest_fits c.requires.value_fits
+      | else-room-lt64 w ↦ ap (λ x. bits x 64) w.word-is ∙ word-of_one c.args.rest c.args.fill c.args.value c.args.width (omega arith)
     ])
     c.low_bits.ensures

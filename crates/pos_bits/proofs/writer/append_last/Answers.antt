@@ -1,5 +1,5 @@
-use Rattle.std.proofs.Common.{◌≡◌, ◌++◌, ℕ, ◌<◌, List, ap, ◌∙◌, arith, take}
-use Rattle.pos_bits.specs.Bits.{AreBytes, byte_count}
+use Rattle.std.proofs.Common.{◌++◌, ap, ◌∙◌, arith, take}
+use Rattle.pos_bits.specs.Bits.{byte_count}
 use Rattle.pos_bits.proofs.AppendLemmas.{last-appended, none-appended}
 use Rattle.pos_bits.proofs.BytesLemmas.{AreBytes-from_reads}
 use Rattle.pos_bits.proofs.writer.append_last.Goals as goal

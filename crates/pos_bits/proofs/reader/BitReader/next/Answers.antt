@@ -1,4 +1,4 @@
-use Rattle.std.proofs.Common.{◌≡◌, ◌+◌, ◌-◌, ◌*◌, ◌<◌, ◌≤◌, ◌^◌, length, sym, ◌∙◌, subst, arith}
+use Rattle.std.proofs.Common.{◌≡◌, ◌+◌, ◌-◌, ◌<◌, ◌^◌, sym, ◌∙◌, subst, arith}
 use Rattle.std.proofs.lemmas.Nat.{shr_below}
 use Rattle.pos_bits.proofs.ReaderLemmas.{length-left, next-bits}
 use Rattle.pos_bits.proofs.reader.BitReader.next.Goals as goal

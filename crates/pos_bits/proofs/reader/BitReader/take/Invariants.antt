@@ -1,4 +1,4 @@
-use Rattle.std.proofs.Common.{ℕ, ◌≡◌, ◌-◌, ◌^◌, ◌<◌, ◌≤◌, ◌++◌, length}
+use Rattle.std.proofs.Common.{◌≡◌, ◌-◌, ◌^◌, ◌<◌, ◌≤◌, ◌++◌, length}
 use Rattle.pos_bits.specs.Bits.{bits}
 use Rattle.pos_bits.proofs.reader.BitReader.take.Given as goal
 
@@ -8,7 +8,7 @@ invariant-loop-left l = record {
   at_most : l.left ≤ l.width;
   there : l.left ≤ length l.self;
   below : l.value < 2 ^ (l.width - l.left);
-  taken : l.fn.self ≡ bits l.value (l.width - l.left) ++ l.self
+  taken : l.fn.self ≡ bits l.value (l.width - l.left) ++ l.self;
 }
 
 abbrev pub decreases-loop-left : goal.decreases-loop-left

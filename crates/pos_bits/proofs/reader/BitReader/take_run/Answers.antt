@@ -1,4 +1,4 @@
-use Rattle.std.proofs.Common.{◌≡◌, ◌+◌, ◌-◌, ◌*◌, ◌<◌, ◌≤◌, ◌^◌, length, sym, ◌∙◌, arith}
+use Rattle.std.proofs.Common.{sym, ◌∙◌, arith}
 use Rattle.pos_bits.proofs.ReaderLemmas.{length-left, run-taken}
 use Rattle.pos_bits.proofs.reader.BitReader.take_run.Goals as goal
 
@@ -10,4 +10,4 @@ pub returns-clause-some : goal.returns-clause-some
 returns-clause-some c =
     sym c.self.view_is
     ∙ run-taken c.self.inside.bytes.now c.self.inside.at c.ones_from-ones.result c.ones_from-ones.ensures.ones
-      (c.ones_from-ones.ensures.next (omega (arith, (invariant_of-self c).1)))
+    (c.ones_from-ones.ensures.next (omega (arith, (invariant_of-self c).1)))

@@ -1,5 +1,5 @@
-use Rattle.std.proofs.Common.{◌≡◌, ◌+◌, ◌-◌, ◌*◌, ◌%◌, ◌/◌, ◌^◌, ◌<◌, ◌≤◌, ℕ, take, length, drop, refl, ap, ◌∙◌, arith, length-take}
-use Rattle.pos_bits.specs.Bits.{bits, bits_of}
+use Rattle.std.proofs.Common.{◌≡◌, ◌*◌, ◌%◌, take, length, refl, ap, ◌∙◌, arith, length-take}
+use Rattle.pos_bits.specs.Bits.{bits_of}
 use Rattle.pos_bits.proofs.BytesLemmas.{length-bits_of}
 use Rattle.pos_bits.proofs.WindowLemmas.{front-more, window-front_lt}
 use Rattle.pos_bits.proofs.string.BitString.from_bytes.Goals as goal
@@ -27,8 +27,8 @@ loop-at-preserved c = record {
   at_most = omega arith;
   whole_words = λ h. let whole : c.loop-at.at % 8 ≡ 0 = c.loop-at.invariant.whole_words c.loop-at-test.true in omega arith;
   string_is =
-    front-more c.args.bytes.now c.loop-at.string c.push_within_word.new.self c.loop-at.at c.min-count.result c.bits_at_byte.result (omega arith) (omega arith)
-    c.bits_at_byte.ensures c.loop-at.invariant.string_is c.push_within_word.ensures.bits
+      front-more c.args.bytes.now c.loop-at.string c.push_within_word.new.self c.loop-at.at c.min-count.result c.bits_at_byte.result (omega arith) (omega arith)
+      c.bits_at_byte.ensures c.loop-at.invariant.string_is c.push_within_word.ensures.bits;
 }
 
 pub returns-clause-len : goal.returns-clause-len

@@ -1,4 +1,4 @@
-use Rattle.std.proofs.Common.{◌≡◌, ◌+◌, ◌-◌, ◌*◌, ◌/◌, ◌%◌, ◌^◌, ◌<◌, ◌≤◌, ℕ, length, slice_index_or, sym, ap, ◌∙◌, arith}
+use Rattle.std.proofs.Common.{◌≡◌, ◌/◌, ◌%◌, length, slice_index_or, sym, ap, ◌∙◌, arith}
 use Rattle.pos_bits.specs.Bits.{number}
 use Rattle.pos_bits.proofs.BitsLemmas.{inside-lt, number-bits}
 use Rattle.pos_bits.proofs.HeldLemmas.{held-len, held-part}

@@ -1,23 +1,17 @@
-use Rattle.std.proofs.Common.{◌≡◌, ◌+◌, ◌-◌, ◌≤◌, ◌*◌, ◌/◌, ◌%◌, ◌^◌, ◌++◌, length, refl, sym, ap, ◌∙◌, arith}
-use Rattle.pos_bits.specs.Bits.{bits}
-use Rattle.pos_bits.proofs.PiecesLemmas.{length-put, put-more, put-none}
+use Rattle.std.proofs.Common.{◌≡◌, ◌-◌, ◌^◌, ◌+◌, ◌<◌, subst, arith}
+use Rattle.std.proofs.lemmas.Nat.{and_mask, shr_below}
+use Rattle.pos_bits.proofs.PiecesLemmas.{none-put, two-appended}
 use Rattle.pos_bits.proofs.string.BitString.push.Goals as goal
 
-pub loop-left-init : goal.loop-left-init
-loop-left-init c = record { at_most = omega arith; pushed = put-none c.args.self.now c.args.value c.args.width }
+pub push_word-requires-clause-value_fits : goal.push_word-requires-clause-value_fits
+push_word-requires-clause-value_fits c =
+    let size : c.args.width ≡ (c.args.width - 64) + 64 = omega arith in
+    shr_below c.args.value (c.args.width - 64) 64 (subst (λ k. c.args.value < 2 ^ k) size c.requires.value_fits)
 
-pub push_within_word-requires-clause-room : goal.push_within_word-requires-clause-room
-push_within_word-requires-clause-room c =
-    let l = length-put c.args.self.now c.loop-left.self _ _ c.loop-left.invariant.pushed in omega arith
+pub returns-then-width-gt64-clause-bits : goal.returns-then-width-gt64-clause-bits
+returns-then-width-gt64-clause-bits c =
+    two-appended c.args.self.now c.push_word.new.self c.push_word-then-width-gt64.new.self c.args.value c.args.width (c.args.width - 64) 64 _ (omega arith)
+    c.push_word.ensures.bits (and_mask c.args.value 64) c.push_word-then-width-gt64.ensures.bits
 
-pub loop-left-preserved : goal.loop-left-preserved
-loop-left-preserved c = record {
-  at_most = omega arith;
-  pushed =
-    put-more c.args.self.now c.loop-left.self c.push_within_word.new.self c.args.value c.args.width c.loop-left.left c.min-count.result (omega arith) (omega arith)
-    c.loop-left.invariant.pushed (c.push_within_word.ensures.bits ∙ ap (λ x. c.loop-left.self ++ bits x c.min-count.result) c.low_bits.ensures)
-}
-
-pub returns-clause-len : goal.returns-clause-len
-returns-clause-len c =
-    let l = length-put c.args.self.now c.loop-left.self _ _ c.loop-left.invariant.pushed in omega arith
+pub returns-else-width-gt0-clause-bits : goal.returns-else-width-gt0-clause-bits
+returns-else-width-gt0-clause-bits c = none-put c.args.self.now c.args.value c.args.width (omega arith)

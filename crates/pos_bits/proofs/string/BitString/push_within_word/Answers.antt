@@ -1,4 +1,4 @@
-use Rattle.std.proofs.Common.{◌≡◌, ◌+◌, ◌%◌, ◌<◌, ◌≤◌, ℕ, length, ap, ◌∙◌, arith, length-append, ◌++◌, refl, rules, slice_index_or, ◌/◌, ◌*◌, ◌-◌, ◌^◌}
+use Rattle.std.proofs.Common.{◌≡◌, ◌+◌, ◌%◌, ◌<◌, length, ap, ◌∙◌, arith, length-append, ◌++◌, refl, rules, slice_index_or, ◌/◌, ◌*◌, ◌-◌, ◌^◌}
 use Rattle.pos_bits.specs.Bits.{bits}
 use Rattle.pos_bits.specs.Blocks.{length-bits}
 use Rattle.pos_bits.proofs.HeldLemmas.{HoldsBits-of_blocks, held-len, held-push, held-push_fits, held_bits-of_blocks}

@@ -1,5 +1,5 @@
-use Rattle.std.proofs.Common.{◌≡◌, length, refl, arith, ap, ◌∙◌, ◌+◌, ◌/◌, sym}
-use Rattle.pos_bits.proofs.HeldLemmas.{held-eight, held-len}
+use Rattle.std.proofs.Common.{ap, ◌∙◌, ◌+◌, ◌/◌, sym}
+use Rattle.pos_bits.proofs.HeldLemmas.{held-len}
 use Rattle.pos_bits.proofs.OutLemmas.{WroteWords-all, WroteWords-more, WroteWords-none}
 use Rattle.pos_bits.proofs.string.BitString.to_block.Goals as goal
 

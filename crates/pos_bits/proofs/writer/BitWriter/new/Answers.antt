@@ -1,4 +1,4 @@
-use Rattle.std.proofs.Common.{◌≡◌, [], ◌++◌, refl, ap, ap₂, ◌∙◌, arith}
+use Rattle.std.proofs.Common.{refl}
 use Rattle.pos_bits.specs.Bits.{bits, bits_of}
 use Rattle.pos_bits.proofs.writer.BitWriter.new.Goals as goal
 

@@ -1,4 +1,4 @@
-use Rattle.std.proofs.Common.{◌≡◌, ◌+◌, ◌-◌, ◌*◌, ◌%◌, ◌/◌, ◌^◌, ◌<◌, ◌≤◌, ◌++◌, ℕ, refl, ap, sym, ◌∙◌, subst, arith, rules, replicate, true, append-nil}
+use Rattle.std.proofs.Common.{◌≡◌, ◌-◌, ◌++◌, arith, append-nil}
 use Rattle.pos_bits.specs.Bits.{bits, bits_of}
 use Rattle.pos_bits.proofs.AppendLemmas.{ones-appended, run-appended, run-fits}
 use Rattle.pos_bits.proofs.writer.BitWriter.put_run.Goals as goal
@@ -11,7 +11,7 @@ loop-left-init c =
       fill_below = c.self.invariant.fill_below;
       rest_below = c.self.invariant.rest_below;
       room = omega (arith, c.in-Ok.ensures.ok);
-      written = rw (none, append-nil c.args.self.now, c.reserve.ensures.items) c.self.view_is
+      written = rw (none, append-nil c.args.self.now, c.reserve.ensures.items) c.self.view_is;
     }
 
 pub loop-left-preserved : goal.loop-left-preserved
@@ -22,9 +22,9 @@ loop-left-preserved c =
       rest_below = c.append.ensures.rest;
       room = omega arith;
       written =
-        ones-appended c.args.self.now (bits_of c.loop-left.self-inside.bytes.items ++ bits c.loop-left.self-inside.rest c.loop-left.self-inside.fill)
-        (bits_of c.append.new.bytes.items ++ bits c.append.result.0 c.append.result.1) c.args.ones c.loop-left.left 32 c.loop-left.invariant.at_most (omega arith)
-        c.loop-left.invariant.written c.append.ensures.bits
+          ones-appended c.args.self.now (bits_of c.loop-left.self-inside.bytes.items ++ bits c.loop-left.self-inside.rest c.loop-left.self-inside.fill)
+          (bits_of c.append.new.bytes.items ++ bits c.append.result.0 c.append.result.1) c.args.ones c.loop-left.left 32 c.loop-left.invariant.at_most (omega arith)
+          c.loop-left.invariant.written c.append.ensures.bits;
     }
 
 pub append-requires-2-clause-value_fits : goal.append-requires-2-clause-value_fits

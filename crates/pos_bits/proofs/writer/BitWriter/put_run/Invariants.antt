@@ -1,4 +1,4 @@
-use Rattle.std.proofs.Common.{ℕ, ◌≡◌, ◌+◌, ◌-◌, ◌*◌, ◌/◌, ◌^◌, ◌<◌, ◌≤◌, ◌++◌, true, replicate, vec_capacity, vec_len}
+use Rattle.std.proofs.Common.{◌≡◌, ◌+◌, ◌-◌, ◌*◌, ◌^◌, ◌<◌, ◌≤◌, ◌++◌, true, replicate, vec_capacity, vec_len}
 use Rattle.pos_bits.specs.Bits.{bits, bits_of}
 use Rattle.pos_bits.proofs.writer.BitWriter.put_run.Given as goal
 
@@ -9,7 +9,7 @@ invariant-loop-left l = record {
   fill_below : l.self-inside.fill < 64;
   rest_below : l.self-inside.rest < 2 ^ l.self-inside.fill;
   room : 8 * vec_len l.self-inside.bytes + l.self-inside.fill + l.left + 120 ≤ 8 * vec_capacity l.self-inside.bytes;
-  written : bits_of l.self-inside.bytes.items ++ bits l.self-inside.rest l.self-inside.fill ≡ l.fn.self ++ replicate (l.ones - l.left) true
+  written : bits_of l.self-inside.bytes.items ++ bits l.self-inside.rest l.self-inside.fill ≡ l.fn.self ++ replicate (l.ones - l.left) true;
 }
 
 abbrev pub decreases-loop-left : goal.decreases-loop-left

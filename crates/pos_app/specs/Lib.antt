@@ -1,0 +1,5 @@
+pub mod Words
+pub mod Command
+pub mod Read
+pub mod Texts
+pub mod Answers

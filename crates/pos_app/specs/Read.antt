@@ -1,0 +1,18 @@
+-- A command as the program holds it. This is for private functions; no public clause speaks of it.
+use Rattle.std.specs.Prelude.{◌≡◌, ◌≢◌, List, ℕ, length, slice_index, Option, Some, None}
+use Rattle.pos_app.specs.Command.{Command as Meant, Verify as MeantVerify}
+use Rattle.pos_app.specs.declared.command.Command.{Command}
+use Rattle.pos_app.specs.declared.command.Command.TheVariants.{Verify}
+
+-- the command that the program holds
+abbrev pub meant : Command → Meant
+meant (Verify judged) = MeantVerify judged.id.0 judged.size judged.challenge.0 judged.proof.items
+
+-- it is the one that the words are, or there is none
+abbrev pub Reads : Option Command → Option Meant → Type 0
+Reads None command = command ≡ None
+Reads (Some held) command = command ≡ Some (meant held)
+
+-- no sign stands in front (43 is a plus), and no zero (48) before other digits
+abbrev pub IsPlain : List ℕ → Type 0
+IsPlain word = (slice_index word 0 ≢ 43) × (slice_index word 0 ≡ 48 → length word ≡ 1)

@@ -1,0 +1,28 @@
+-- What a word of the command line writes. A word is the list of its bytes.
+use Rattle.std.specs.Prelude.{ℕ, ◌+◌, ◌*◌, ◌<◌, ◌==◌, ◌&&◌, ◌||◌, not, nat_le, nat_lt, Bool, if◌then◌else◌, List, length, slice_index, Option, Some, None}
+use Rattle.std.specs.Option.{option_and_then}
+use Rattle.std.specs.Result.{result_ok}
+use Rattle.std.specs.Str.{all_ascii_digits}
+use Rattle.std.specs.Str.Parse.{digits_value}
+use Rattle.hex.specs.Hex.{decode_of}
+
+-- decimal digits without a sign, and without a leading zero except in 0 itself; 48 is the digit 0
+abbrev pub is_decimal : List ℕ → Bool
+is_decimal word =
+    nat_lt 0 (length word) && all_ascii_digits word && (length word == 1 || not (slice_index word 0 == 48))
+
+-- the number that a word writes in decimal
+abbrev pub decimal_word : List ℕ → Option ℕ
+decimal_word word = if is_decimal word then Some (digits_value 10 word) else None
+
+-- a size k, from 10 to 32
+abbrev pub size_word : List ℕ → Option ℕ
+size_word word = option_and_then (λ k. if nat_le 10 k && nat_le k 32 then Some k else None) (decimal_word word)
+
+-- the bytes that an even number of hexadecimal digits write, in either case
+abbrev pub bytes_word : List ℕ → Option (List ℕ)
+bytes_word word = result_ok (decode_of word)
+
+-- the 32 bytes that 64 hexadecimal digits write
+abbrev pub hash_word : List ℕ → Option (List ℕ)
+hash_word word = if length word == 64 then bytes_word word else None

@@ -1,0 +1,11 @@
+//! The program: words, texts and statuses. `run` does all that the program does.
+#![tactic(auto)]
+
+mod command;
+mod program;
+mod text;
+
+pub use program::run;
+
+#[cfg(test)]
+mod tests;

@@ -1,0 +1,10 @@
+pub mod Calls
+pub mod Faults
+pub mod Frame
+pub mod Images
+pub mod Log
+pub mod MemoryDisks
+pub mod MemoryLaws
+pub mod ScratchNames
+pub mod Sinks
+pub mod View

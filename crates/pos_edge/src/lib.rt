@@ -1,0 +1,17 @@
+//! The outside as the program meets it: files and output. Each trait carries its whole meaning, and a double in memory meets it.
+#![tactic(auto)]
+
+mod disk;
+mod scratch;
+mod sink;
+
+pub use disk::{CreateFault, Disk, DiskFailed, FileId, MAX_READ, OpenFault, WriteFault};
+pub use scratch::{MAX_SCRATCH_FILES, Scratch, ScratchDamage, ScratchFile, WorkFault};
+pub use sink::{MemorySink, PutFailed, Sink};
+
+/// What a call answers that needed more memory than there was.
+#[derive(Clone, Copy, Debug, PartialEq, Eq)]
+pub struct Memory;
+
+#[cfg(test)]
+mod tests;

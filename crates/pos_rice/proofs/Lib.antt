@@ -1,0 +1,5 @@
+pub mod CallLemmas
+pub mod HeadLemmas
+pub mod ParkLemmas
+pub mod ReadingLemmas
+pub mod StepLemmas

@@ -1,0 +1,3 @@
+pub mod Park
+pub mod Reading
+pub mod Steps
