@@ -1,5 +1,5 @@
 -- The answer to a command, whichever it is.
-use Rattle.std.proofs.Common.{◌≡◌, ℕ, List, sym, ◌∙◌, subst}
+use Rattle.std.proofs.Common.{◌≡◌, ℕ, sym, ◌∙◌, subst}
 use Rattle.std.specs.Prelude.{Option, Some}
 use Rattle.pos_app.specs.Command.{Command}
 use Rattle.pos_app.specs.Answers.{Heard, SaysAnswer, TellsAnswer}

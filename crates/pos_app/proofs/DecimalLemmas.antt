@@ -1,6 +1,6 @@
 -- Reading a number in decimal by the library's parser.
-use Rattle.std.proofs.Common.{◌≡◌, ◌≢◌, ℕ, ◌<◌, ◌≤◌, ◌^◌, ◌==◌, ◌&&◌, ◌||◌, not, Bool, true, false, if◌then◌else◌, nat_lt, List, length, refl, sym, ap, ◌∙◌, subst, arith, ◌⊎◌, inl, inr, ⊎_elim, lt-ltb, ltb-true, eq-eqb, eqb-true, true≢false}
-use Rattle.std.specs.Prelude.{Option, Some, None, Result, Ok, Err, IfSome, IfNone, slice_index}
+use Rattle.std.proofs.Common.{◌≡◌, ℕ, ◌<◌, ◌≤◌, ◌^◌, ◌==◌, ◌||◌, not, true, false, List, length, refl, sym, ap, ◌∙◌, subst, ⊎_elim, lt-ltb, ltb-true, eq-eqb, eqb-true}
+use Rattle.std.specs.Prelude.{Some, None, Result, Ok, Err, IfSome, IfNone, slice_index}
 use Rattle.std.specs.Result.{OkIff, result_ok}
 use Rattle.std.specs.Str.{all_ascii_digits}
 use Rattle.std.specs.Str.Parse.{digits_value, ParsesUnsigned}

@@ -5,7 +5,7 @@ use Rattle.std.proofs.Math.Seq.{take-suc}
 use Rattle.std.proofs.lemmas.Slice.{take-put_mid}
 use borrow.Rule.Slice.PartMut.{put_mid}
 use Rattle.std.specs.Int.{w32, to_le_bytes}
-use Rattle.pos_blake3.specs.Blake3.{message_words, word_from, word_bytes}
+use Rattle.pos_blake3.specs.Blake3.{message_words, word_bytes}
 
 -- past its end a list of zeros has zeros
 pub get_or-zeros : (n i : ℕ) → get_or (replicate {A = ℕ} n 0) i 0 ≡ 0

@@ -1,5 +1,5 @@
 -- The definition tried against published values.
-use Rattle.std.proofs.Common.{◌≡◌, ℕ, List, [], ◌∷◌, refl}
+use Rattle.std.proofs.Common.{◌≡◌, [], ◌∷◌, refl}
 use Rattle.pos_blake3.specs.Blake3.{blake3_block, word_bytes, halves_joined, rounds, round, mix, mix_words, initial_state, initial_words, message_words, permuted, permutation}
 
 -- the hash of no bytes

@@ -1,7 +1,7 @@
 -- BLAKE3 of one block: a message of at most 64 bytes, which is a single chunk, and its root.
 -- Source: the BLAKE3 paper, 2.2 (the compression function) to 2.4 (chunks).
 -- A word is a number below 2 ^ 32, a state a list of sixteen words.
-use Rattle.std.specs.Prelude.{ℕ, zero, suc, ◌+◌, ◌*◌, ◌%◌, ◌^◌, List, [], ◌∷◌, ◌++◌, length, map, take, drop, bit_xor, slice_index, slice_set}
+use Rattle.std.specs.Prelude.{ℕ, zero, suc, ◌+◌, ◌*◌, ◌%◌, ◌^◌, List, [], ◌∷◌, ◌++◌, length, map, take, bit_xor, slice_index, slice_set}
 use Rattle.std.specs.Int.{w32, rotate_right, to_le_bytes}
 
 -- the sum of two words, with the carry dropped

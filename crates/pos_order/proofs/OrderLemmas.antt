@@ -1,7 +1,7 @@
 -- The order of tuples as a recursion: the rests decide, and where they are the same the first values.
 -- Every fact on the order is an induction over it.
-use Rattle.std.proofs.Common.{◌≡◌, ◌≢◌, ℕ, zero, suc, ◌+◌, ◌<◌, ◌≤◌, ◌⊎◌, ◌↔◌, inl, inr, ⊎_elim, Bool, true, false, ◌&&◌, ◌||◌, ◌==◌, nat_lt, cond, IsTrue, List, [], ◌∷◌, ◌++◌, length, slice_index, sym, refl, ap, ap₂, ◌∙◌, subst, arith, lt-ltb, le-ltb, ltb-true, ltb-false, eqb-true, eq-eqb, length-append, lt_trans, ext_get_or, true≢false}
-use Rattle.std.proofs.lemmas.Bool.{cases_lt, cases_order, cases_Bool, or_cases, and_parts, or_left, or_right, and_from, true_from_ne_false, false_from_ne_true}
+use Rattle.std.proofs.Common.{◌≡◌, ◌≢◌, ℕ, zero, suc, ◌+◌, ◌<◌, ◌⊎◌, ◌↔◌, inl, inr, ⊎_elim, true, false, nat_lt, IsTrue, List, [], ◌∷◌, ◌++◌, length, slice_index, sym, refl, ap, ap₂, ◌∙◌, subst, arith, lt-ltb, ltb-true, eqb-true, eq-eqb, length-append, lt_trans, ext_get_or, true≢false}
+use Rattle.std.proofs.lemmas.Bool.{cases_order, cases_Bool, or_cases, and_parts, or_left, or_right, and_from, false_from_ne_true}
 use Rattle.pos_order.specs.Order.{DiffersAt, Below, is_same, is_below, lesser_first}
 
 -- the rest is below the rest, or they are the same and the first value is less

@@ -1,5 +1,5 @@
 -- The values of a proof, read one after another from its bits.
-use Rattle.std.proofs.Common.{◌≡◌, ℕ, zero, suc, ◌+◌, ◌-◌, ◌*◌, ◌^◌, ◌<◌, ◌≤◌, Bool, List, [], ◌∷◌, ◌++◌, length, take, drop, take_at, drop_at, ap₂, refl, sym, ap, ◌∙◌, subst, arith, append_assoc, length-append, add-one, add_comm}
+use Rattle.std.proofs.Common.{◌≡◌, ℕ, suc, ◌+◌, ◌*◌, ◌^◌, ◌<◌, ◌≤◌, Bool, List, [], ◌∷◌, ◌++◌, length, take, drop, take_at, drop_at, ap₂, refl, sym, ap, ◌∙◌, subst, arith, append_assoc, length-append, add-one, add_comm}
 use Rattle.std.proofs.Math.Nat.{mul-suc, mul-le-mul_left}
 use Rattle.std.specs.Prelude.{All, slice_set}
 use Rattle.std.proofs.lemmas.List.Elements.{All-push}

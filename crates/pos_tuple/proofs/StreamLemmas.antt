@@ -1,12 +1,12 @@
 -- The key stream: its bits by bytes, by words and by windows of three words.
-use Rattle.std.proofs.Common.{◌≡◌, ℕ, zero, suc, ◌+◌, ◌-◌, ◌*◌, ◌/◌, ◌%◌, ◌^◌, ◌<◌, ◌≤◌, ◌==◌, Bool, List, [], ◌∷◌, ◌++◌, length, arith, refl, sym, ◌∙◌, ap, append_assoc, length-append, take, subst, lit<}
+use Rattle.std.proofs.Common.{◌≡◌, ℕ, zero, suc, ◌+◌, ◌-◌, ◌*◌, ◌/◌, ◌%◌, ◌^◌, ◌<◌, ◌≤◌, ◌==◌, List, ◌∷◌, ◌++◌, length, arith, refl, sym, ◌∙◌, ap, append_assoc, length-append, subst, lit<}
 use Rattle.std.specs.Int.{w32, swap_bytes}
 use Rattle.std.proofs.Math.Nat.{div-one, pow-le-pow_right, mod-lt, mod-eq_of_lt}
 use Rattle.std.proofs.lemmas.Nat.{shr_high, mod_low, shr_below, pow_pos}
 use Rattle.pos_bits.specs.Bits.{bits, number}
 use Rattle.pos_bits.proofs.BitsLemmas.{number-append, number-lt, number-bits, bits-append}
 use Rattle.pos_bits.specs.Blocks.{length-bits}
-use Rattle.rand_chacha.specs.ChaCha.{ChaCha, next_word, of_seed, key_of, word_at}
+use Rattle.rand_chacha.specs.ChaCha.{ChaCha, next_word, of_seed, key_of}
 use Rattle.pos_tuple.specs.Stream.{stream_key, stream_word, stream_byte, stream_bit, stream_bits, f1_of}
 
 pub length-stream_bits : (id : List ℕ) (i n : ℕ) → length (stream_bits id i n) ≡ n

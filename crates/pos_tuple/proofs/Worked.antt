@@ -1,14 +1,13 @@
 -- The definitions tried against values of an independent program, which was tried against published ones.
-use Rattle.std.proofs.Common.{◌≡◌, ℕ, List, [], ◌∷◌, refl, Bool, true, false}
-use Rattle.std.specs.Prelude.{replicate, Some}
+use Rattle.std.proofs.Common.{◌≡◌, refl, true}
+use Rattle.std.specs.Prelude.{replicate}
 use Rattle.pos_bits.specs.Bits.{bits, number, bytes_for, bits_of}
 use Rattle.pos_blake3.specs.Blake3.{blake3_block, word_bytes, halves_joined, rounds, round, mix, mix_words, initial_state, initial_words, message_words, permuted, permutation}
 use Rattle.rand_core.specs.Steps.{u32_at}
 use Rattle.rand_chacha.specs.Block.{block_word, double_rounds, column_round, diagonal_round, quarter_round}
-use Rattle.pos_tuple.specs.declared.entry.Entry.{Entry}
 use Rattle.pos_tuple.specs.Stream.{stream_word, stream_byte, stream_bit, stream_bits, f1_of}
 use Rattle.pos_tuple.specs.Match.{is_match, has_target_below}
-use Rattle.pos_tuple.specs.Node.{first_entry, hash_bits, collated, next_entry, first_node, joined, node}
+use Rattle.pos_tuple.specs.Node.{hash_bits, collated, next_entry}
 
 -- f1 of two values, for the id of 32 zero bytes and k = 12
 pub f1_of_a_value : f1_of (replicate 32 0) 12 3208 ≡ 114418

@@ -1,7 +1,7 @@
 -- What a tuple of values stands for in the tables: its y and its metadata, where its pairs match.
 -- Source: the Construction document, "f2 to f7", "collation"; chiapos, `FxCalculator`.
 -- Tables count from 1 to 7; an entry of table t stands for 2 ^ (t - 1) values.
-use Rattle.std.specs.Prelude.{◌≡◌, ℕ, zero, suc, ◌+◌, ◌*◌, ◌^◌, ◌<◌, Bool, if◌then◌else◌, nat_lt, List, [], ◌∷◌, ◌++◌, take, drop, slice_index, Option, Some, None}
+use Rattle.std.specs.Prelude.{ℕ, zero, suc, ◌+◌, ◌*◌, ◌^◌, Bool, if◌then◌else◌, nat_lt, List, [], ◌∷◌, ◌++◌, take, drop, slice_index, Option, Some, None}
 use Rattle.pos_bits.specs.Bits.{bits, number, bytes, bits_of}
 use Rattle.pos_blake3.specs.Blake3.{blake3_block}
 use Rattle.pos_tuple.specs.declared.entry.Entry.{Entry}

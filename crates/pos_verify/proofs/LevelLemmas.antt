@@ -1,6 +1,6 @@
 -- Groups of values, and the step from the entries of one level to those of the next.
-use Rattle.std.proofs.Common.{◌≡◌, ◌≢◌, ℕ, zero, suc, ◌+◌, ◌-◌, ◌*◌, ◌^◌, ◌<◌, ◌≤◌, Bool, true, false, if◌then◌else◌, List, [], ◌∷◌, length, take, drop, get_or, refl, sym, ap, ap₂, ◌∙◌, subst, arith, drop-cons, lt-ltb, ◌⊎◌, inl, inr, ⊎_elim}
-use Rattle.std.specs.Prelude.{Option, Some, None, IsSome, slice_set, slice_index, nat_lt, All}
+use Rattle.std.proofs.Common.{◌≡◌, ◌≢◌, ℕ, zero, suc, ◌+◌, ◌-◌, ◌*◌, ◌^◌, ◌<◌, ◌≤◌, true, if◌then◌else◌, List, [], ◌∷◌, length, take, drop, refl, sym, ap, ap₂, ◌∙◌, subst, arith, drop-cons, lt-ltb, ◌⊎◌, inl, inr, ⊎_elim}
+use Rattle.std.specs.Prelude.{Option, Some, None, IsSome, slice_set, slice_index, nat_lt}
 use Rattle.std.specs.List.{slice_get}
 use Rattle.std.proofs.lemmas.List.{drop-take, take-take, drop-drop, length-set, take_all}
 use Rattle.std.proofs.Math.Nat.{mul-one}

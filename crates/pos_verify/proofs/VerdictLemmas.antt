@@ -1,10 +1,9 @@
 -- What each verdict says of proofs: only an accepted list of bytes is one.
-use Rattle.std.proofs.Common.{◌≡◌, ◌≢◌, ℕ, zero, suc, ◌+◌, ◌-◌, ◌*◌, ◌/◌, ◌%◌, ◌^◌, ◌<◌, ◌≤◌, List, length, refl, sym, ap, ap₂, ◌∙◌, subst, arith, ◌⊎◌, inl, inr, ⊎_elim, true, false, true≢false}
-use Rattle.std.specs.Prelude.{Option, Some, None, IsSome}
+use Rattle.std.proofs.Common.{◌≡◌, ◌≢◌, ℕ, zero, suc, ◌+◌, ◌-◌, ◌*◌, ◌/◌, ◌^◌, ◌<◌, List, length, refl, sym, ap, ap₂, ◌∙◌, arith, ◌⊎◌, ⊎_elim, true, false, true≢false}
+use Rattle.std.specs.Prelude.{Option, Some, None}
 use Rattle.pos_tuple.specs.declared.entry.Entry.{Entry}
 use Rattle.pos_tuple.specs.Node.{joined, node}
-use Rattle.pos_tuple.specs.Proof.{challenge_value, f7_of, f7, Proof}
-use Rattle.pos_tuple.proofs.StreamLemmas.{pow_mono}
+use Rattle.pos_tuple.specs.Proof.{challenge_value, f7}
 use Rattle.pos_order.specs.Values.{WritesValues}
 use Rattle.pos_order.proofs.PlotOrderLemmas.{double}
 use Rattle.pos_order.proofs.ValuesLemmas.{writes_values-one, length-written}

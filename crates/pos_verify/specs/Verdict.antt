@@ -1,5 +1,5 @@
 -- What a verdict on the bytes of a proof says, and which verdict is right.
-use Rattle.std.specs.Prelude.{◌≡◌, ◌≢◌, ℕ, ◌+◌, ◌-◌, ◌*◌, ◌^◌, ◌<◌, ◌≤◌, List, length, take, drop, Some, None, IsSome}
+use Rattle.std.specs.Prelude.{◌≡◌, ◌≢◌, ℕ, ◌-◌, ◌*◌, ◌^◌, ◌<◌, ◌≤◌, List, length, take, drop, Some, None, IsSome}
 use Rattle.pos_tuple.specs.Node.{node}
 use Rattle.pos_tuple.specs.Proof.{challenge_value, f7, Proof}
 use Rattle.pos_order.specs.Values.{WritesValues}

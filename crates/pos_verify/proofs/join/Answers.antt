@@ -1,8 +1,6 @@
-use Rattle.std.proofs.Common.{◌≡◌, ◌+◌, ◌-◌, ◌*◌, length, ◌∙◌, sym, ap, subst, arith, refl, inl, inr, true, false, Some}
-use Rattle.std.specs.List.{slice_get}
+use Rattle.std.proofs.Common.{◌≡◌, ◌+◌, ◌-◌, ◌*◌, ◌∙◌, sym, ap, arith, refl, inl, inr, true, false, Some}
 use Rattle.std.proofs.lemmas.Option.{slice_get_read}
 use Rattle.pos_tuple.specs.Match.{is_match}
-use Rattle.pos_tuple.specs.Node.{metadata_units}
 use Rattle.pos_verify.proofs.LevelLemmas.{joined_at-read}
 use Rattle.pos_verify.proofs.join.Goals as goal
 

@@ -1,4 +1,4 @@
-use Rattle.std.proofs.Common.{◌≡◌, ◌-◌, ◌≤◌, ◌^◌, ◌+◌, ◌*◌, arith, sym}
+use Rattle.std.proofs.Common.{◌-◌, ◌≤◌, ◌^◌, ◌+◌, arith}
 use Rattle.pos_tuple.proofs.StreamLemmas.{pow_mono}
 use Rattle.pos_verify.proofs.LevelLemmas.{joined-next}
 use Rattle.pos_verify.proofs.join_pairs.Goals as goal

@@ -1,4 +1,4 @@
-use Rattle.std.proofs.Common.{◌≡◌, ◌∙◌, sym, ap, arith, length, Some}
+use Rattle.std.proofs.Common.{◌∙◌, sym, ap, arith, Some}
 use Rattle.std.proofs.lemmas.List.{length-set}
 use Rattle.pos_verify.proofs.LevelLemmas.{node-one, are_nodes-push, all_fit-push}
 use Rattle.pos_verify.proofs.leaves.Goals as goal

@@ -1,7 +1,6 @@
-use Rattle.std.proofs.Common.{◌≡◌, ◌<◌, ◌-◌, ◌^◌, ◌*◌, length, arith, sym, ◌∙◌, refl}
+use Rattle.std.proofs.Common.{◌≡◌, length, arith, sym, ◌∙◌}
 use Rattle.std.proofs.lemmas.Option.{slice_get-get_or}
-use Rattle.pos_verify.specs.Levels.{AllFit}
-use Rattle.pos_verify.proofs.LevelLemmas.{twice_groups, levels-none, levels-next, levels-stop, levels-all}
+use Rattle.pos_verify.proofs.LevelLemmas.{twice_groups, levels-next, levels-stop, levels-all}
 use Rattle.pos_verify.proofs.root_of.Goals as goal
 
 pub join_pairs-requires-clause-fit : goal.join_pairs-requires-clause-fit

@@ -1,6 +1,5 @@
-use Rattle.std.proofs.Common.{◌≡◌, ◌*◌, ◌/◌, sym, ap, ◌∙◌, arith, Some}
-use Rattle.pos_tuple.specs.Proof.{Proof, f7, challenge_value}
-use Rattle.pos_verify.specs.Verdict.{IsProofBytes}
+use Rattle.std.proofs.Common.{◌/◌, sym, ap, ◌∙◌, arith, Some}
+use Rattle.pos_tuple.specs.Proof.{Proof}
 use Rattle.pos_verify.proofs.VerdictLemmas.{f7-node, no_proof-length, no_proof-failing, no_proof-challenge}
 use Rattle.pos_verify.proofs.verify.Goals as goal
 

@@ -1,5 +1,4 @@
-use Rattle.std.proofs.Common.{◌≡◌, subst, sym}
-use Rattle.std.specs.Prelude.{IfSome, IfNone, Some}
+use Rattle.std.proofs.Common.{subst}
 use Rattle.pos_app.specs.Read.{IsPlain}
 use Rattle.pos_app.proofs.DecimalLemmas.{decimal-read, decimal-none}
 use Rattle.pos_app.proofs.command.read_decimal.Goals as goal

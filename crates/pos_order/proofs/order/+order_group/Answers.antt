@@ -1,4 +1,4 @@
-use Rattle.std.proofs.Common.{◌≡◌, ℕ, ◌-◌, ◌<◌, ◌≤◌, ◌+◌, ◌^◌, ◌/◌, ◌++◌, List, length, take, drop, ap, ap₂, sym, ◌∙◌, arith, refl, true, false}
+use Rattle.std.proofs.Common.{◌≡◌, ◌-◌, ◌++◌, length, ap, ap₂, sym, ◌∙◌, arith, refl, true, false}
 use Rattle.pos_order.specs.Order.{plot_order, lesser_first, is_below}
 use Rattle.pos_order.proofs.PlotOrderLemmas.{half_count, half_twice, length-plot_order, plot_order-halves}
 use Rattle.pos_order.proofs.order.+order_group.Goals as goal

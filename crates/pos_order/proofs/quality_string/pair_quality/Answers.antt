@@ -1,5 +1,4 @@
-use Rattle.std.proofs.Common.{◌≡◌, ℕ, List, take, take_at, length, ◌++◌, ◌∙◌, ap, ap₂, sym, refl}
-use Rattle.std.specs.Prelude.{replicate}
+use Rattle.std.proofs.Common.{◌≡◌, take, take_at, ◌++◌, ◌∙◌, ap, sym, refl}
 use Rattle.sha2.specs.Sha256.{sha256}
 use Rattle.pos_bits.specs.Bits.{bits, bytes}
 use Rattle.pos_bits.proofs.BytesLemmas.{length-bytes}

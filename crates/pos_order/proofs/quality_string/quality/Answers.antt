@@ -1,8 +1,7 @@
-use Rattle.std.proofs.Common.{◌≡◌, ℕ, ◌<◌, ◌+◌, ◌*◌, ◌%◌, ◌^◌, length, slice_index, ap, ◌∙◌, sym, subst, refl, arith}
+use Rattle.std.proofs.Common.{◌<◌, ◌+◌, ◌*◌, ◌%◌, ◌^◌, slice_index, ◌∙◌, sym, subst, refl, arith}
 use Rattle.std.specs.Prelude.{All}
-use Rattle.pos_order.specs.Order.{plot_order}
-use Rattle.pos_order.specs.Quality.{quality_of, quality_index}
-use Rattle.pos_order.proofs.PlotOrderLemmas.{All-plot_order, length-plot_order}
+use Rattle.pos_order.specs.Quality.{quality_of}
+use Rattle.pos_order.proofs.PlotOrderLemmas.{All-plot_order}
 use Rattle.pos_order.proofs.quality_string.quality.Goals as goal
 
 pub pair_quality-requires-clause-lesser_fits : goal.pair_quality-requires-clause-lesser_fits

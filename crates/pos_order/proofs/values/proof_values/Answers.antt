@@ -1,7 +1,7 @@
-use Rattle.std.proofs.Common.{◌≡◌, ◌++◌, refl, arith, subst}
-use Rattle.pos_bits.specs.Bits.{bits, AreBytes}
+use Rattle.std.proofs.Common.{refl, arith}
+use Rattle.pos_bits.specs.Bits.{AreBytes}
 use Rattle.pos_bits.proofs.BytesLemmas.{AreBytes-from_reads}
-use Rattle.pos_order.proofs.ValuesLemmas.{read-none, read-next, read-all, read-some}
+use Rattle.pos_order.proofs.ValuesLemmas.{read-none, read-next, read-all}
 use Rattle.pos_order.proofs.values.proof_values.Goals as goal
 
 pub loop-i-init : goal.loop-i-init

@@ -1,4 +1,3 @@
-use Rattle.std.proofs.Common.{refl}
 use Rattle.std.proofs.lemmas.Bool.Decides.{Decides-eqb, Decides-like}
 use Rattle.pos_tuple.proofs.MatchLemmas.{only_target-decides}
 use Rattle.pos_tuple.proofs.matching.has_target.Goals as goal

@@ -1,4 +1,4 @@
-use Rattle.std.proofs.Common.{◌≡◌, ◌<◌, ◌≤◌, ◌*◌, ◌%◌, ◌^◌, ◌/◌, ◌-◌, ◌+◌, ◌∙◌, arith, ap}
+use Rattle.std.proofs.Common.{◌<◌, ◌≤◌, ◌*◌, ◌^◌, ◌+◌, ◌∙◌, arith, ap}
 use Rattle.std.proofs.Math.Nat.{mul-le-mul_left}
 use Rattle.pos_tuple.specs.Stream.{f1_of}
 use Rattle.pos_tuple.proofs.StreamLemmas.{pow_mono, f1-computed, f1-lt}
