@@ -59,17 +59,21 @@ none-whole id k (suc d) n q xs top inside len e =
 pub no_proof-length : (id : List ℕ) (k : ℕ) (c proof : List ℕ) → length proof ≢ 8 * k → IsProofBytes id k c proof → ⊥
 no_proof-length id k c proof other h = other (length-written k h.0 proof h.1)
 
+-- values whose halves fail to match somewhere have no f7
+pub no_f7-failing :
+    (id : List ℕ) (k : ℕ) (xs : List ℕ) (level pair : ℕ) → length xs ≡ 64 → FailsFirst id k xs level pair → f7 id k xs ≡ None
+unfolding f7
+no_f7-failing id k xs level pair count fails =
+    let up : level + (6 - level) ≡ 6 = omega (arith, fails.to_level) in
+    let none = none-whole id k (6 - level) level pair xs up fails.inside count fails.here in
+    rw none refl
+
 pub no_proof-failing :
     (id : List ℕ) (k : ℕ) (c proof xs : List ℕ) (level pair : ℕ) → WritesValues k xs proof → FailsFirst id k xs level pair
     → IsProofBytes id k c proof → ⊥
-unfolding f7
 no_proof-failing id k c proof xs level pair written fails h =
     let same : h.0 ≡ xs = writes_values-one k h.0 xs proof h.1 written in
-    let up : level + (6 - level) ≡ 6 = omega (arith, fails.to_level) in
-    let none : node id k 6 h.0 ≡ None =
-    ap (node id k 6) same ∙ none-whole id k (6 - level) level pair xs up fails.inside written.count fails.here
-    in
-    let empty : f7 id k h.0 ≡ None = rw none refl in
+    let empty : f7 id k h.0 ≡ None = ap (f7 id k) same ∙ no_f7-failing id k xs level pair written.count fails in
     let answer : ◌≡◌ {A = Option ℕ} None (Some (challenge_value k c)) = sym empty ∙ h.2.answers in
     true≢false (let t : true ≡ false = cc in t)
 

@@ -43,3 +43,8 @@ IsAcceptance (Accepted quality) = Unit {0}
 IsAcceptance (WrongLength want found) = ⊥
 IsAcceptance (NoMatch level pair) = ⊥
 IsAcceptance (WrongChallenge want found) = ⊥
+
+-- at most one verdict is right
+abbrev pub OneVerdict : Type 0
+OneVerdict =
+    (id : List ℕ) (k : ℕ) (c proof : List ℕ) (v w : Verdict) → IsRight id k c proof v → IsRight id k c proof w → v ≡ w

@@ -4,7 +4,7 @@
 ghost use Rattle.std.specs.Prelude.{◌≡◌, ◌↔◌, ◌≤◌, ◌<◌, ◌+◌, ◌-◌, ◌*◌, ◌^◌, ℕ, Some, ◌⊎◌, IfOk, IfErr, IfSome, OnOk, slice_get, length, All, IsTrue};
 ghost use Rattle.pos_tuple.specs.Node.{node};
 ghost use Rattle.pos_tuple.specs.declared.entry.Entry.{Entry};
-ghost use Rattle.pos_verify.specs.Verdict.{IsRight, IsProofBytes, IsAcceptance, FailsFirst};
+ghost use Rattle.pos_verify.specs.Verdict.{IsRight, OneVerdict, IsProofBytes, IsAcceptance, FailsFirst};
 ghost use Rattle.pos_verify.specs.Levels.{FitsTable, AllFit, AreNodes, AreJoined, StopsAt, joined_at};
 
 use pos_order::{proof_values, quality};
@@ -58,6 +58,11 @@ pub fn verify(id: &Id, size: Size, challenge: &Challenge, proof: &[u8]) -> Verdi
         }
     }
 }
+
+/// At most one verdict on given bytes is right. It is a law, and does nothing.
+pub fn at_most_one_verdict_is_right()
+    ensures { OneVerdict }
+{}
 
 // The first pair that does not match.
 struct Failing {

@@ -1,0 +1,12 @@
+// Laws of plot order: each is the contract of a function that does nothing.
+ghost use Rattle.pos_order.specs.OrderLaws.{TurningsHaveOnePlotOrder, TurningsHaveOneQuality};
+
+/// A tuple and each of its turnings have one plot order.
+pub fn turnings_have_one_plot_order()
+    ensures { TurningsHaveOnePlotOrder }
+{}
+
+/// A proof and each of its turnings have one quality.
+pub fn turnings_have_one_quality()
+    ensures { TurningsHaveOneQuality }
+{}
