@@ -2,7 +2,7 @@
 //! digit of the root by one division.
 
 ghost use Rattle.pos_points.specs.Root.{IsRoot};
-ghost use Rattle.std.specs.Prelude.{◌≡◌, ◌+◌, ◌*◌, ◌<◌, ◌≤◌, ◌^◌};
+ghost use Rattle.std.specs.Prelude.{◌+◌, ◌*◌, ◌<◌, ◌≤◌, ◌^◌};
 
 /// A square root rounded down, and what its square leaves of the number.
 #[derive(Clone, Copy)]

@@ -5,7 +5,7 @@ ghost use Rattle.pos_rice.specs.Park.{Park, step_bits, steps_bits};
 ghost use Rattle.pos_rice.specs.Reading.{numbers_in};
 ghost use Rattle.pos_rice.specs.Steps.{NoHead, NoStep, NoSteps, RiseFrom};
 ghost use Rattle.pos_rice.specs.declared.TheConstants.{MOST_NUMBERS};
-ghost use Rattle.std.specs.Prelude.{◌≡◌, ◌≢◌, ◌↔◌, ℕ, Bool, List, false, ◌++◌, ◌+◌, ◌*◌, ◌^◌, ◌<◌, ◌≤◌, drop, length, replicate, take, IfNone, IfSome, IsTrue, OnErr, OnOk, OnSome};
+ghost use Rattle.std.specs.Prelude.{◌≡◌, ◌↔◌, ℕ, List, false, ◌++◌, ◌+◌, ◌*◌, ◌^◌, ◌<◌, ◌≤◌, drop, length, replicate, take, IfNone, IfSome, IsTrue, OnErr, OnOk, OnSome};
 
 use crate::low::low_width;
 use crate::{MOST_BYTES, ParkForm};

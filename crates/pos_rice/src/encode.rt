@@ -2,7 +2,7 @@
 
 ghost use Rattle.pos_rice.specs.Park.{AreNumbers, Park, steps_bits};
 ghost use Rattle.pos_rice.specs.Steps.{RiseFrom};
-ghost use Rattle.std.specs.Prelude.{◌≡◌, ℕ, ◌∷◌, ◌++◌, ◌+◌, ◌^◌, ◌<◌, ◌≤◌, length, IfOk, OnOk};
+ghost use Rattle.std.specs.Prelude.{◌≡◌, ◌++◌, ◌+◌, ◌^◌, ◌<◌, ◌≤◌, IfOk, OnOk};
 
 use crate::low::low_width;
 use pos_bits::{BitWriter, Memory};
