@@ -1,0 +1,118 @@
+use crate::run;
+use pos_edge::{MemoryDisk, MemorySink};
+use std::alloc::Global;
+use std::test::Fail;
+
+const ID: &str = "0000000000000000000000000000000000000000000000000000000000000000";
+
+const CHALLENGE: &str = "8eb0000000000000000000000000000000000000000000000000000000000000";
+
+const PROOF: &str =
+    "c889aba8b2380f9bd6d06651bbf4114733e6a26aef371424e269758ffbbb91e140c6ace20dc8dc4ba3bf2896879bd50deab97ec39e9ee3be7b5888a2af037cd79a84890bab669199c2904edb16cf976a084b398e912297ce15fb82f89a24fbc0";
+
+// The proof with its halves of 32 values exchanged.
+const EXCHANGED: &str =
+    "eab97ec39e9ee3be7b5888a2af037cd79a84890bab669199c2904edb16cf976a084b398e912297ce15fb82f89a24fbc0c889aba8b2380f9bd6d06651bbf4114733e6a26aef371424e269758ffbbb91e140c6ace20dc8dc4ba3bf2896879bd50d";
+
+// The status and the text of a run with these words, over a disk with no files and a sink that fails at its first put
+// where it is said.
+fn answer(alloc: Global, words: &[&str], fails: bool) -> Result<(u8, Vec<u8>), Fail> {
+    let mut owned = Vec::new(alloc);
+    for word in words {
+        owned.push(String::from_str(alloc, word)?)?;
+    }
+    let mut failing = Vec::new(alloc);
+    if fails {
+        failing.push(0)?;
+    }
+    let mut disk = MemoryDisk::new(alloc, Vec::new(alloc));
+    let mut sink = MemorySink::new(alloc, failing, 4096)?;
+    let status = run(alloc, owned.as_slice(), &mut disk, &mut sink);
+    Ok((status, sink.text().to_vec(alloc)?))
+}
+
+fn repeated(alloc: Global, digit: &str, times: u32) -> Result<String, Fail> {
+    let mut text = String::new(alloc);
+    for _ in 0..times {
+        text.push_str(digit)?;
+    }
+    Ok(text)
+}
+
+#[test]
+fn a_proof_is_accepted_in_either_case(rt: HostRuntime) -> Result<(), Fail> {
+    let alloc = rt.alloc();
+    let accepted = b"accepted f5c480fc25dc135208b49720eb0df0b590708544caecb9125c8fc7117da36b71\n";
+    let (status, text) = answer(alloc, &["verify", ID, "12", CHALLENGE, PROOF], false)?;
+    assert_eq!(rt; text.as_slice(), accepted.as_slice());
+    assert_eq!(rt; status, 0);
+    let challenge = CHALLENGE.to_ascii_uppercase(alloc)?;
+    let proof = PROOF.to_ascii_uppercase(alloc)?;
+    let words = ["verify", ID, "12", challenge.as_str(), proof.as_str()];
+    let (status, text) = answer(alloc, &words, false)?;
+    assert_eq!(rt; text.as_slice(), accepted.as_slice());
+    assert_eq!(rt; status, 0);
+    Ok(())
+}
+
+#[test]
+fn refusals_name_the_first_failing_test(rt: HostRuntime) -> Result<(), Fail> {
+    let alloc = rt.alloc();
+    let whole = repeated(alloc, "0", 288)?;
+    let short = repeated(alloc, "0", 286)?;
+    let long = repeated(alloc, "0", 290)?;
+    let rows = [
+        ("18", ID, whole.as_str(), "refused match 1 0\n"),
+        ("18", ID, short.as_str(), "refused length 144 143\n"),
+        ("18", ID, long.as_str(), "refused length 144 145\n"),
+        ("18", ID, "", "refused length 144 0\n"),
+        ("12", CHALLENGE, EXCHANGED, "refused match 6 0\n"),
+        // a challenge whose first bits differ
+        ("12", ID, PROOF, "refused challenge 0 2283\n"),
+    ];
+    for (k, challenge, proof, wanted) in rows {
+        let (status, text) = answer(alloc, &["verify", ID, k, challenge, proof], false)?;
+        assert_eq!(rt; text.as_slice(), wanted.as_bytes());
+        assert_eq!(rt; status, 1);
+    }
+    Ok(())
+}
+
+#[test]
+fn words_that_are_no_command_answer_the_usage_line(rt: HostRuntime) -> Result<(), Fail> {
+    let alloc = rt.alloc();
+    let words: [&[&str]; 12] = [
+        &[],
+        &["verify"],
+        &["plot", ID, "10", "p", "s"],
+        &["verify", ID, "9", ID, ""],
+        &["verify", ID, "33", ID, ""],
+        &["verify", ID, "018", ID, ""],
+        &["verify", ID, "+18", ID, ""],
+        &["verify", &ID[1..], "18", ID, ""],
+        &["verify", ID, "18", ID, "0"],
+        &["verify", ID, "18", ID, "0g"],
+        &["verify", ID, "-18", ID, ""],
+        &["verify", ID, "18", ID, "", ""],
+    ];
+    for words in words {
+        let (status, text) = answer(alloc, words, false)?;
+        assert_eq!(rt;
+            text.as_slice(),
+            b"usage: pos_main COMMAND WORDS\n".as_slice()
+        );
+        assert_eq!(rt; status, 2);
+    }
+    Ok(())
+}
+
+#[test]
+fn a_sink_that_fails_gives_its_status(rt: HostRuntime) -> Result<(), Fail> {
+    let alloc = rt.alloc();
+    let (status, text) = answer(alloc, &["verify", ID, "12", CHALLENGE, PROOF], true)?;
+    assert_eq!(rt; text.len(), 0);
+    assert_eq!(rt; status, 7);
+    let (status, _) = answer(alloc, &[], true)?;
+    assert_eq!(rt; status, 7);
+    Ok(())
+}

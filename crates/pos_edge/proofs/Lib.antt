@@ -1,5 +1,10 @@
 pub mod Frames
-pub mod Histories
+pub mod Events
+pub mod Kept
+pub mod KeptActs
+pub mod KeptCalls
+pub mod KeptPlaced
+pub mod KeptResults
 pub mod MemoryCalls
 pub mod MemoryFrames
 pub mod MemoryUses

@@ -14,7 +14,7 @@ use Rattle.pos_edge.specs.Calls.{WasThere, WasAbsent, IsCreated, IsHalfCreated, 
 use Rattle.pos_edge.specs.Log.{Making, Event, NameState, state_of, contents_of, bytes_of, acted, IsImage}
 use Rattle.pos_edge.specs.MemoryDisks.{DiskState, OpenFile, memory_view, live_of, size_in, name_in, holds, IsSound, CreateGives, OpenGives, passed, failed, noted, given, opened}
 use Rattle.pos_edge.specs.MemoryLaws.{named_at}
-use Rattle.pos_edge.proofs.Histories.{state_of-own, take_end, slice_get-push_other, slice_get-push_new, slice_get-end, sound_at, name_kept_any, name_in-there, there_is, file_none}
+use Rattle.pos_edge.proofs.Events.{state_of-own, take_end, slice_get-push_other, slice_get-push_new, slice_get-end, sound_at, name_kept_any, name_in-there, there_is, file_none}
 use Rattle.pos_edge.proofs.MemoryFrames.{SameFiles, still_frame, still_ids, still_untouched, noted_frame, noted_images, make_step}
 
 pub counted_ge : (n : ℕ) → n < 2 ^ 64 → n ≤ counted n

@@ -1,17 +1,17 @@
 -- What a call on a disk in memory keeps: without an event, and with one.
-use Rattle.std.proofs.Common.{ℕ, ◌+◌, ◌-◌, ◌≤◌, ◌<◌, ◌≡◌, ◌↔◌, ◌⊎◌, min, max, Bool, true, false, List, [], ◌∷◌, ◌++◌, length, take, drop, get_or, All, Option, Some, None, refl, sym, ap, ◌∙◌, subst, inl, inr, arith, length-append, length-drop}
+use Rattle.std.proofs.Common.{ℕ, ◌==◌, ◌&&◌, not, ◌+◌, ◌-◌, ◌≤◌, ◌<◌, ◌≡◌, ◌↔◌, ◌⊎◌, min, max, Bool, true, false, List, [], ◌∷◌, ◌++◌, length, take, drop, get_or, All, Option, Some, None, refl, sym, ap, ◌∙◌, subst, inl, inr, arith, length-append, length-drop}
 use Rattle.std.specs.Prelude.{slice_get, option_map}
-use Rattle.std.proofs.lemmas.Bool.{cases_lt, true≢false, false≢true}
-use Rattle.std.proofs.lemmas.List.{length-take, get_or_append_left, get_or-append_right, get_or-take, get_or-drop, length_push, ext_get_or, nil_from_length}
-use Rattle.std.proofs.lemmas.List.Sums.{fold_push}
-use Rattle.std.proofs.lemmas.List.Elements.{All-push}
+use Rattle.std.proofs.lemmas.Bool.{cases_Bool, cases_lt, true≢false, false≢true, cond-true, cond-false, not-true, and_parts}
+use Rattle.std.proofs.lemmas.List.{length-take, get_or_append_left, get_or-append_right, get_or-take, get_or-drop, length_push, take-append-drop, ext_get_or, nil_from_length}
+use Rattle.std.proofs.lemmas.List.Sums.{fold_push, fold-append}
+use Rattle.std.proofs.lemmas.List.Elements.{All-push, All-take}
 use Rattle.std.proofs.lemmas.Option.{same_Some}
 use Rattle.pos_edge.specs.Frame.{ChangesOnly, KeepsIds, IsUntouched, Nothing, NameOf}
 use Rattle.pos_edge.specs.Images.{written, IsOutside, Torn, Tears, Stays, MayVanish, IsAbsentOrEmpty, ImagesBy}
 use Rattle.pos_edge.specs.Log.{Act, Event, File, NameState, state_of, contents_of, bytes_of, written_all, with_write, as_synced, acted, is_clean, IsImage, MayLeave}
-use Rattle.pos_edge.specs.MemoryDisks.{DiskState, memory_view, live_of, size_in, name_in, IsSound}
-use Rattle.pos_edge.specs.MemoryLaws.{written-outside, length-written_all_ge, image_now}
-use Rattle.pos_edge.proofs.Histories.{state_of-beside, state_of-own, take_before, take_end, take_moments, name_kept, sound_at}
+use Rattle.pos_edge.specs.MemoryDisks.{DiskState, memory_view, live_of, size_in, name_in, IsSound, image_after}
+use Rattle.pos_edge.specs.MemoryLaws.{written-outside, length-written_all_ge, written_all-outside, image_now}
+use Rattle.pos_edge.proofs.Events.{state_of-beside, state_of-own, take_before, take_end, take_moments, name_kept, sound_at}
 
 path_iff : {X : Type 0} (P : X → Type 0) {a b : X} → a ≡ b → P a ↔ P b
 path_iff P e = (λ x. subst P e x, λ x. subst P (sym e) x)
@@ -224,3 +224,18 @@ remove_step file i is = (Some (bytes_of file), image_now (Some file), inr is)
 pub make_step : (i : Option (List ℕ)) → IsImage (Some (record { synced = false; base = []; writes = [] })) i → IsAbsentOrEmpty i
 make_step None is = inl refl
 make_step (Some image) left = inr (ap (λ x. Some x) (nil_from_length image (let l = left.no_longer in omega arith)))
+
+-- the synced bytes with some of the later writes are an image
+written_all-part : (k : ℕ) (writes : List (ℕ × List ℕ)) (bytes : List ℕ) → written_all (drop k writes) (written_all (take k writes) bytes) ≡ written_all writes bytes
+written_all-part k writes bytes = sym (fold-append (λ now write. written write.0 write.1 now) bytes (take k writes) (drop k writes)) ∙ ap (λ ws. written_all ws bytes) (take-append-drop k writes)
+
+pub image_told : (writes : ℕ) (file : Option File) → IsImage file (image_after writes file)
+image_told writes None = refl
+image_told writes (Some file) = elim (cases_Bool ((writes == 0) && not file.synced)) [
+  | inl t ↦ subst (IsImage (Some file)) (sym (cond-true ((writes == 0) && not file.synced) None (Some (written_all (take writes file.writes) file.base)) t)) (not-true file.synced (and_parts (writes == 0) (not file.synced) t).1)
+  | inr f ↦ subst (IsImage (Some file)) (sym (cond-false ((writes == 0) && not file.synced) None (Some (written_all (take writes file.writes) file.base)) f)) (record {
+    no_shorter = length-written_all_ge (take writes file.writes) file.base;
+    no_longer = let l = length-written_all_ge (drop writes file.writes) (written_all (take writes file.writes) file.base) in omega (arith, l, ap length (written_all-part writes file.writes file.base));
+    others = λ k h out. written_all-outside (take writes file.writes) file.base k h (All-take (λ write. IsOutside write.0 (length write.1) k) writes file.writes out);
+  })
+]

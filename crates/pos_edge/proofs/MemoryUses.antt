@@ -12,10 +12,10 @@ use Rattle.pos_edge.specs.Frame.{ChangesOnly, ChangesFile, KeepsIds, IsUntouched
 use Rattle.pos_edge.specs.Images.{written, Tears, Stays, MayVanish, ImagesBy}
 use Rattle.pos_edge.specs.Calls.{IsThere, AreBytesAt, IsWritten, IsHalfWritten, SameContents, IsSynced, Ends, IsGone, IsAsItWasOrGone}
 use Rattle.pos_edge.specs.Log.{Writing, Syncing, Removing, Event, File, NameState, state_of, contents_of, bytes_of, with_write, as_synced, acted, is_clean, IsImage}
-use Rattle.pos_edge.specs.MemoryDisks.{DiskState, OpenFile, memory_view, live_of, size_in, name_in, holds, is_there, is_clean_name, IsSound, IsSoundFile, ReadGives, WriteGives, SyncGives, RemoveGives, passed, failed, has_read, noted, replaced, ended, grown}
+use Rattle.pos_edge.specs.MemoryDisks.{DiskState, OpenFile, memory_view, live_of, size_in, name_in, holds, is_there, is_clean_name, IsSound, IsSoundFile, ReadGives, WriteGives, SyncGives, RemoveGives, passed, failed, has_read, noted, replaced, ended, grown, CanUse, history_in}
 use Rattle.pos_edge.specs.MemoryLaws.{holds_bytes, length-written_ge}
 use Rattle.pos_edge.proofs.ScratchFiles.{cases_name}
-use Rattle.pos_edge.proofs.Histories.{state_of-own, state_of-beside, slice_get-set_same, slice_get-set_other, sound_at, name_kept_any, name_kept_act, name_in-there, there_is, file_some}
+use Rattle.pos_edge.proofs.Events.{state_of-own, state_of-beside, slice_get-set_same, slice_get-set_other, sound_at, name_kept_any, name_kept_act, name_in-there, there_is, file_some}
 use Rattle.pos_edge.proofs.MemoryFrames.{SameFiles, still_frame, still_ids, still_untouched, still_images, noted_frame, noted_images_by, image_from_clock, Tears-same, Stays-same, MayVanish-same, write_step, sync_step, remove_step, clean_image, length-written, bytes_of-with_write}
 use Rattle.pos_edge.proofs.MemoryCalls.{counted_ge, Rose-counted}
 
@@ -37,17 +37,20 @@ name_some log h named = elim (cases_Bool (is_there h log)) [
 ]
 
 -- from the conditions of the calls
-pub usable : (d : DiskState) (f : ℕ) → IsSound d → (memory_view d).is_live f ≡ true → IsThere f (memory_view d) → (h : OpenFile) × IsUsable d f h
-usable d f sound live there =
+pub can_use : (d : DiskState) (f : ℕ) → (memory_view d).is_live f ≡ true → IsThere f (memory_view d) → (h : OpenFile) × CanUse (history_in d) f h × ((memory_view d).size_of f ≡ h.size)
+can_use d f live there =
     let s = some_at (slice_get d.open_files f) live in (
       s.0,
       record {
         at = s.1;
         live = sym (ap live_of s.1) ∙ live;
         there = name_some d.log s.0 (sym (ap (λ o. is_some (name_in d.log o)) s.1) ∙ there refl);
-        sound = sound;
       },
+      ap size_in s.1,
     )
+
+pub usable : (d : DiskState) (f : ℕ) (h : OpenFile) → IsSound d → CanUse (history_in d) f h → IsUsable d f h
+usable d f h sound can = record { at = can.at; live = can.live; there = can.there; sound = sound }
 
 module _ (d : DiskState) (f : ℕ) (h : OpenFile) (use' : IsUsable d f h) where
   -- the name, the file and the bytes behind it

@@ -1,6 +1,7 @@
 pub mod Calls
 pub mod Faults
 pub mod Frame
+pub mod Histories
 pub mod Images
 pub mod Log
 pub mod MemoryDisks

@@ -9,6 +9,7 @@ use Rattle.pos_edge.specs.declared.disk.OpenFault.TheVariants.{Absent, Failed as
 use Rattle.pos_edge.specs.declared.disk.WriteFault.{WriteFault}
 use Rattle.pos_edge.specs.declared.disk.WriteFault.TheVariants.{Failed as WriteFailed, Memory as WriteMemory}
 use Rattle.pos_edge.specs.declared.disk.DiskFailed.{DiskFailed}
+use Rattle.std.specs.declared.alloc.AllocError.{AllocError}
 use Rattle.pos_edge.specs.Faults.{counted}
 use Rattle.pos_edge.specs.View.{View}
 use Rattle.pos_edge.specs.Log.{Act, Making, Writing, Syncing, Removing, Event, File, state_of, contents_of, written_all, is_clean, IsImage}
@@ -21,7 +22,12 @@ pub record OpenFile : Type 0 where
   pub removals : ℕ
   pub size : ℕ
 
--- The history, the FileIds given so far by their numbers, the counts of calls, faults and reads, the numbers of the calls
+-- the history, and the FileIds given so far by their numbers
+pub record HistoryState : Type 0 where
+  pub log : List Event
+  pub open_files : List OpenFile
+
+-- The same, the counts of calls, faults and reads, the numbers of the calls
 -- that are to fail, and the number of calls after which each one fails.
 pub record DiskState : Type 0 where
   pub log : List Event
@@ -159,3 +165,39 @@ placed name bytes disk = noted name Syncing (noted name (Writing 0 bytes) (noted
 abbrev pub image_after : ℕ → Option File → Option (List ℕ)
 image_after writes None = None
 image_after writes (Some file) = if (writes == 0) && not file.synced then None else Some (written_all (take writes file.writes) file.base)
+
+-- The same of the history alone.
+abbrev pub noted_in : List ℕ → Act → HistoryState → HistoryState
+noted_in name act history = record history { log = history.log ++ record { name = name; act = act } ∷ [] }
+
+abbrev pub given_in : OpenFile → HistoryState → HistoryState
+given_in file history = record history { open_files = history.open_files ++ file ∷ [] }
+
+abbrev pub replaced_in : ℕ → OpenFile → HistoryState → HistoryState
+replaced_in place file history = record history { open_files = slice_set history.open_files place file }
+
+abbrev pub MakeGives : HistoryState → List ℕ → Result (Option ℕ) AllocError → HistoryState → Type 0
+MakeGives history name (Ok (Some file)) new = (contents_of name history.log ≡ None) × (file ≡ length history.open_files) × (new ≡ given_in (opened name 0 history.log) (noted_in name Making history))
+MakeGives history name (Ok None) new = IsSome (contents_of name history.log) × (new ≡ history)
+MakeGives history name (Err fault) new = new ≡ history
+
+abbrev pub FindGives : HistoryState → List ℕ → Result (Option ℕ) AllocError → HistoryState → Type 0
+FindGives history name (Ok (Some file)) new = (file ≡ length history.open_files) × ((bytes : List ℕ) × (contents_of name history.log ≡ Some bytes) × (new ≡ given_in (opened name (length bytes) history.log) history))
+FindGives history name (Ok None) new = (contents_of name history.log ≡ None) × (new ≡ history)
+FindGives history name (Err fault) new = new ≡ history
+
+-- the FileId of this number can be used: it is live, and its file is there
+pub record CanUse (history : HistoryState) (place : ℕ) (file : OpenFile) : Type 0 where
+  pub at : slice_get history.open_files place ≡ Some file
+  pub live : file.live ≡ true
+  pub there : is_there file history.log ≡ true
+
+abbrev pub placed_in : List ℕ → List ℕ → HistoryState → HistoryState
+placed_in name bytes history = noted_in name Syncing (noted_in name (Writing 0 bytes) (noted_in name Making history))
+
+abbrev pub synced_in : OpenFile → HistoryState → HistoryState
+synced_in file history = if is_clean_name file.name history.log then history else noted_in file.name Syncing history
+
+-- the disk's history alone
+abbrev pub history_in : DiskState → HistoryState
+history_in disk = record { log = disk.log; open_files = disk.open_files }

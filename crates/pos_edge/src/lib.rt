@@ -2,10 +2,13 @@
 #![tactic(auto)]
 
 mod disk;
+mod history;
+mod memory_disk;
 mod scratch;
 mod sink;
 
 pub use disk::{CreateFault, Disk, DiskFailed, FileId, MAX_READ, OpenFault, WriteFault};
+pub use memory_disk::MemoryDisk;
 pub use scratch::{MAX_SCRATCH_FILES, Scratch, ScratchDamage, ScratchFile, WorkFault};
 pub use sink::{MemorySink, PutFailed, Sink};
 

@@ -30,7 +30,7 @@ state_of-beside n log e other = state_of-push n log e ∙ happened-other n (stat
 pub state_of-own : (n : List ℕ) (log : List Event) (a : Act) → state_of n (log ++ record { name = n; act = a } ∷ []) ≡ acted a (state_of n log)
 state_of-own n log a = state_of-push n log (record { name = n; act = a }) ∙ happened-own n (state_of n log) a
 
-acted_removals : (a : Act) (s : NameState) → s.removals ≤ (acted a s).removals
+pub acted_removals : (a : Act) (s : NameState) → s.removals ≤ (acted a s).removals
 acted_removals Making s = omega arith
 acted_removals (Writing at piece) s = omega arith
 acted_removals Syncing s = omega arith
