@@ -1,5 +1,8 @@
+mod search;
+
 use crate::run;
 use pos_edge::{MemoryDisk, MemorySink};
+use pos_tuple::Id;
 use std::alloc::Global;
 use std::test::Fail;
 
@@ -115,4 +118,46 @@ fn a_sink_that_fails_gives_its_status(rt: HostRuntime) -> Result<(), Fail> {
     let (status, _) = answer(alloc, &[], true)?;
     assert_eq!(rt; status, 7);
     Ok(())
+}
+
+// The digits of numbers of 12 bits.
+fn digits_of(alloc: Global, values: &[u64]) -> Result<String, Fail> {
+    let mut text = String::new(alloc);
+    for value in values {
+        text.push_str(format!(in alloc; "{value:03x}")?.as_str())?;
+    }
+    Ok(text)
+}
+
+#[test]
+fn the_first_proof_that_plain_loops_find_is_accepted(rt: HostRuntime) -> Result<(), Fail> {
+    let alloc = rt.alloc();
+    for first in 0..10u8 {
+        let mut id = Id([0; 32]);
+        id.0[0] = first;
+        let Some(found) = search::first_found(alloc, &id)? else {
+            continue;
+        };
+        let rest = repeated(alloc, "0", 61)?;
+        let challenge = format!(in alloc; "{:03x}{rest}", found.y >> 6)?;
+        let tail = repeated(alloc, "0", 62)?;
+        let name = format!(in alloc; "{first:02x}{tail}")?;
+        let proof = digits_of(alloc, &found.values)?;
+        let words = [
+            "verify",
+            name.as_str(),
+            "12",
+            challenge.as_str(),
+            proof.as_str(),
+        ];
+        let (status, text) = answer(alloc, &words, false)?;
+        assert!(rt; text.as_slice().starts_with(b"accepted "));
+        assert_eq!(rt; status, 0);
+        // These are the words of the program's stored run.
+        assert_eq!(rt; name.as_str(), ID);
+        assert_eq!(rt; challenge.as_str(), CHALLENGE);
+        assert_eq!(rt; proof.as_str(), PROOF);
+        return Ok(());
+    }
+    Err(Fail::from("one of the ids has a proof"))
 }

@@ -8,5 +8,6 @@ pub mod KeptResults
 pub mod MemoryCalls
 pub mod MemoryFrames
 pub mod MemoryUses
+pub mod Quiets
 pub mod ScratchFiles
 pub mod Texts

@@ -6,6 +6,7 @@ pub mod Images
 pub mod Log
 pub mod MemoryDisks
 pub mod MemoryLaws
+pub mod Quiet
 pub mod ScratchNames
 pub mod Sinks
 pub mod View

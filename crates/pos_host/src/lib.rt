@@ -1,8 +1,10 @@
-//! The outside as the machine has it: standard output. It tells nothing of what it holds.
+//! The outside as the machine has it: files and standard output. Neither tells what it holds.
 #![tactic(auto)]
 
+mod disk;
 mod sink;
 
+pub use disk::HostDisk;
 pub use sink::HostSink;
 
 #[cfg(test)]

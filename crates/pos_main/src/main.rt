@@ -1,9 +1,9 @@
-//! The program: it hands the words of the command line and standard output to `run`, and ends with its status.
+//! The program: it hands the words of the command line, the real disk and standard output to `run`, and ends with its
+//! status.
 #![tactic(auto)]
 
 use pos_app::run;
-use pos_edge::MemoryDisk;
-use pos_host::HostSink;
+use pos_host::{HostDisk, HostSink};
 use std::io;
 use std::process::ExitCode;
 use std::rt::Env;
@@ -15,7 +15,7 @@ fn main(rt: HostRuntime) -> ExitCode {
     let Ok(words) = words_of(&rt) else {
         return ExitCode::from(OUT_OF_MEMORY);
     };
-    let mut disk = MemoryDisk::new(rt.alloc(), Vec::new(rt.alloc()));
+    let mut disk = HostDisk::new(&rt, rt.alloc());
     let mut out = HostSink::new(io::writer(&rt));
     ExitCode::from(run(rt.alloc(), words.as_slice(), &mut disk, &mut out))
 }
