@@ -1,0 +1,5 @@
+use Rattle.pos_laws.proofs.NodeParts.{nodes_have_their_length}
+use Rattle.pos_laws.proofs.nodes.nodes_have_their_length.Goals as goal
+
+pub returns : goal.returns
+returns c = nodes_have_their_length

@@ -1,0 +1,5 @@
+use Rattle.pos_laws.proofs.Spans.{span_is_ordered}
+use Rattle.pos_laws.proofs.walks.span_is_ordered.Goals as goal
+
+pub returns : goal.returns
+returns c = span_is_ordered
