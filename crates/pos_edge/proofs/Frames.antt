@@ -1,6 +1,7 @@
 -- Several calls as one: frames one after another, and what a crash may leave over them.
 use Rattle.std.proofs.Common.{ℕ, ◌≤◌, ◌≡◌, ◌↔◌, true, List, Option, refl, sym, ◌∙◌, subst, inl, inr, arith}
 use Rattle.std.proofs.lemmas.Bool.{cases_lt}
+use Rattle.pos_edge.specs.Clients.{FileBeside}
 use Rattle.pos_edge.specs.View.{View}
 use Rattle.pos_edge.specs.Frame.{ChangesOnly, ChangesFile, IsUntouched, Nothing, Just, NameOf}
 use Rattle.pos_edge.specs.Images.{EachImage, ImagesBy, IsOnlyImage}
@@ -91,14 +92,7 @@ file_then file a b c live p q = record {
   grows = let x = p.grows in let y = q.grows in omega arith;
 }
 
--- A value that owns another file, live and of another name, finds it as it was: live, of its size and name, its bytes and images.
-pub record FileBeside (file : ℕ) (old new : View) : Type 0 where
-  pub live : new.is_live file ≡ true
-  pub size : new.size_of file ≡ old.size_of file
-  pub name : new.name_of file ≡ old.name_of file
-  pub contents : (n : List ℕ) → NameOf file old n → new.contents n ≡ old.contents n
-  pub images : (n : List ℕ) (t : ℕ) (i : Option (List ℕ)) → NameOf file old n → old.clock ≤ t → t ≤ new.clock → new.image n t i ↔ old.image n old.clock i
-
+-- A value that owns another file, live and of another name, finds it as it was.
 pub file_beside : (names : List ℕ → Type 0) (ids : ℕ → Type 0) (file : ℕ) (a b : View) → ChangesOnly names ids a b
     → a.is_live file ≡ true → (ids file → ⊥) → ((n : List ℕ) → NameOf file a n → names n → ⊥) → FileBeside file a b
 file_beside names ids file a b p live apart other = record {
@@ -117,3 +111,14 @@ only_beside name kept names ids a b p k only = λ i is. only i ((p.images name b
 -- nothing changed, or an outside of the frame: untouched is a frame of any names
 pub untouched_frame : (names : List ℕ → Type 0) (ids : ℕ → Type 0) (a b : View) → IsUntouched a b → ChangesOnly names ids a b
 untouched_frame names ids a b u = frame_wider names Nothing ids Nothing a b (λ n x. absurd x) (λ f l x. absurd x) u.kept
+
+-- a write and its sync are one write
+pub torn_synced : (R : Option (List ℕ) → Option (List ℕ) → Type 0) (file : ℕ) (names : List ℕ → Type 0) (ids : ℕ → Type 0) (a b c : View)
+    → b.name_of file ≡ a.name_of file → a.clock ≤ b.clock → ChangesOnly names ids b c → ImagesBy R file a b → ImagesBy (λ i j. j ≡ i) file b c → ImagesBy R file a c
+torn_synced R file names ids a b c same later kept first second = λ n named t i from to is. elim (cases_lt b.clock t) [
+  | inr earlier ↦ first n named t i from earlier ((kept.past n t i earlier).0 is)
+  | inl after ↦
+      let w = second n (same ∙ named) t i (omega arith) to is in
+      let u = first n named b.clock w.0 later (omega arith) w.1 in
+      (u.0, u.1, subst (R u.0) (sym w.2) u.2)
+]

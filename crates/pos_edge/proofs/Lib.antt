@@ -1,4 +1,5 @@
 pub mod Frames
+pub mod Blanks
 pub mod Events
 pub mod Kept
 pub mod KeptActs

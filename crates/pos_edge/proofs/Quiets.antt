@@ -1,5 +1,5 @@
 -- A disk that tells nothing meets the contract by its counts and sizes.
-use Rattle.std.proofs.Common.{inl, inr, ℕ, ◌+◌, ◌≤◌, ◌<◌, ◌≡◌, ◌^◌, max, Bool, true, false, List, [], ◌∷◌, ◌++◌, length, set, Option, Some, None, Result, Ok, Err, refl, sym, ap, ◌∙◌, subst, arith}
+use Rattle.std.proofs.Common.{inl, inr, ℕ, ◌+◌, ◌≤◌, ◌<◌, ◌≡◌, ◌^◌, max, true, List, [], ◌∷◌, ◌++◌, length, set, Option, Some, None, Result, Ok, Err, refl, sym, ap, ◌∙◌, subst, arith}
 use Rattle.std.specs.Prelude.{slice_get, IfOk, OnOk, OnErr, IsErrOf, is_ok}
 use Rattle.std.proofs.lemmas.Bool.{false≢true, true≢false, cases_eq}
 use Rattle.std.proofs.lemmas.Option.{none-some}
@@ -12,11 +12,10 @@ use Rattle.pos_edge.specs.declared.disk.WriteFault.{WriteFault}
 use Rattle.pos_edge.specs.declared.disk.WriteFault.TheVariants.{Failed as WriteFailed, Memory as WriteMemory}
 use Rattle.pos_edge.specs.declared.disk.DiskFailed.{DiskFailed}
 use Rattle.pos_edge.specs.Faults.{Rose, counted}
-use Rattle.pos_edge.specs.View.{View}
 use Rattle.pos_edge.specs.Frame.{ChangesOnly, ChangesFile, KeepsIds, IsUntouched, Nothing, Just, NameOf}
-use Rattle.pos_edge.specs.Images.{ImagesBy, IsAbsentOrEmpty}
+use Rattle.pos_edge.specs.Images.{ImagesBy}
 use Rattle.pos_edge.specs.Calls.{WasThere, WasAbsent, IsCreated, IsHalfCreated, IsOpened, AreBytesAt, IsWritten, IsHalfWritten, SameContents, IsSynced, Ends, IsGone, IsAsItWasOrGone}
-use Rattle.pos_edge.specs.Quiet.{QuietState, live_in, known_size, quiet_view, QuietCall, QuietFailed, QuietCreates, QuietOpens, QuietReads, QuietWrites, QuietSyncs, QuietRemoves}
+use Rattle.pos_edge.specs.Quiet.{QuietState, live_in, known_size, quiet_view, QuietCreates, QuietOpens, QuietReads, QuietWrites, QuietSyncs, QuietRemoves}
 use Rattle.pos_edge.proofs.Events.{slice_get-push_other, slice_get-push_new, slice_get-end, slice_get-set_same, slice_get-set_other}
 
 quiet_frame : (names : List ℕ → Type 0) (ids : ℕ → Type 0) (a b : QuietState) → a.faults ≤ b.faults → a.reads ≤ b.reads
@@ -203,8 +202,9 @@ module _ (a b : QuietState) (file size : ℕ) (known : slice_get a.sizes file �
   pub write_ids : (end : ℕ) (r : Result (Unit {0}) WriteFault) → QuietWrites a file size end r b → KeepsIds Nothing (quiet_view a) (quiet_view b)
   write_ids end (Ok t) g = record {
     live = λ f k. elim (cases_eq f file) [
-        inl own ↦ subst (λ x. live_in (slice_get b.sizes x) ≡ live_in (slice_get a.sizes x)) (sym own) (ap live_in (write_file (max size end) g.1) ∙ sym (ap live_in known))
-      | inr other ↦ ap live_in (at_set a b file (Some (max size end)) g.1 f other) ];
+      | inl own ↦ subst (λ x. live_in (slice_get b.sizes x) ≡ live_in (slice_get a.sizes x)) (sym own) (ap live_in (write_file (max size end) g.1) ∙ sym (ap live_in known))
+      | inr other ↦ ap live_in (at_set a b file (Some (max size end)) g.1 f other)
+    ];
     name = λ f k. refl;
   }
   write_ids end (Err WriteFailed) g = quiet_ids Nothing a b (λ f k. at_same a b g.1 f)

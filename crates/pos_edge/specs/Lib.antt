@@ -1,4 +1,7 @@
+pub mod BlankDisks
+pub mod BlankFiles
 pub mod Calls
+pub mod Clients
 pub mod Faults
 pub mod Frame
 pub mod Histories

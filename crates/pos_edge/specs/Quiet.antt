@@ -1,5 +1,5 @@
 -- A disk that tells nothing: its counts, and the FileIds given so far by their numbers.
-use Rattle.std.specs.Prelude.{ℕ, ◌+◌, ◌≤◌, ◌≡◌, max, Bool, true, false, List, [], ◌∷◌, ◌++◌, length, slice_get, slice_set, Option, Some, None, Result, Ok, Err, refl}
+use Rattle.std.specs.Prelude.{ℕ, ◌≤◌, ◌≡◌, max, Bool, true, false, List, [], ◌∷◌, ◌++◌, length, slice_get, slice_set, Option, Some, None, Result, Ok, Err, refl}
 use Rattle.pos_edge.specs.declared.disk.FileId.{FileId}
 use Rattle.pos_edge.specs.declared.disk.CreateFault.{CreateFault}
 use Rattle.pos_edge.specs.declared.disk.CreateFault.TheVariants.{Exists, Failed as CreateFailed, Memory as CreateMemory}
