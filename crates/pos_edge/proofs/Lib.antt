@@ -1,4 +1,5 @@
 pub mod Frames
+pub mod Gates
 pub mod Blanks
 pub mod Events
 pub mod Kept

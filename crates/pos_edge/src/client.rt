@@ -53,3 +53,26 @@ pub(crate) fn write_in_turns<D: Disk>(
     write_synced(disk, first, 0, piece)?;
     write_synced(disk, second, 0, piece)
 }
+
+// Makes a file, writes it with its gate closed, and opens the gate once the rest is on the disk.
+pub(crate) fn write_gated<D: Disk>(
+    disk: &mut D,
+    name: &str,
+    body: &[u8],
+) -> Result<FileId, WriteFault>
+    requires { 1 + length body.now < 2 ^ 63 }
+    ensures kept { ChangesOnly (Just name.now) Nothing (D.view disk.old) (D.view disk.new) }
+    // At each moment the gate isn't open, or all behind it is whole.
+    ensures shut { WasAbsent name.now (D.view disk.old)
+        → EachImage name.now (IsShut body.now) (D.view disk.old) (D.view disk.new) }
+    ensures whole { OnOk result ((D.view disk.new).tells ≡ true
+        → (D.view disk.new).contents name.now ≡ Some (1 ∷ body.now)) }
+    ensures durable { OnOk result ((D.view disk.new).tells ≡ true
+        → IsOnlyImage name.now (Some (1 ∷ body.now)) (D.view disk.new)) }
+{
+    let file = disk.create(name).map_err(|_| WriteFault::Failed)?;
+    write_synced(disk, file, 0, &[0])?;
+    write_synced(disk, file, 1, body)?;
+    write_synced(disk, file, 0, &[1])?;
+    Ok(file)
+}

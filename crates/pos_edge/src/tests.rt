@@ -1,4 +1,8 @@
-use crate::{Memory, MemorySink, PutFailed, Sink};
+use crate::client::{write_gated, write_in_turns, write_synced};
+use crate::{
+    BlankDisk, CreateFault, Disk, Memory, MemoryDisk, MemorySink, OpenFault, PutFailed, Scratch,
+    Sink, WorkFault,
+};
 use std::test::Fail;
 
 #[test]
@@ -23,5 +27,96 @@ fn a_sink_fails_at_its_first_put_and_where_room_is_short(rt: HostRuntime) -> Res
     assert_eq!(rt; sink.text(), b"abcd".as_slice());
     let memory = Memory;
     assert_eq!(rt; memory, Memory);
+    Ok(())
+}
+
+#[test]
+fn a_scratch_file_that_is_there_is_refused_by_its_number(rt: HostRuntime) -> Result<(), Fail> {
+    let alloc = rt.alloc();
+    let mut disk = MemoryDisk::new(alloc, Vec::new(alloc));
+    disk.add("s.1", b"kept")?;
+    let mut scratch = Scratch::new(alloc, "s")?;
+    scratch.create(&mut disk).map_err(|_| Memory)?;
+    assert_eq!(rt;
+        scratch.create(&mut disk),
+        Err(WorkFault::Exists { file: 1 })
+    );
+    assert_eq!(rt; scratch.made(), 1);
+    let made = disk.contents("s.0").ok_or("absent")?;
+    assert!(rt; made.is_empty());
+    let kept = disk.contents("s.1").ok_or("absent")?;
+    assert_eq!(rt; kept, b"kept".as_slice());
+    Ok(())
+}
+
+#[test]
+fn the_second_call_fails_as_it_is_told(rt: HostRuntime) -> Result<(), Fail> {
+    let alloc = rt.alloc();
+    let mut disk = MemoryDisk::new(alloc, vec![in alloc; 1]?);
+    assert_eq!(rt; disk.open("p"), Err(OpenFault::Absent));
+    assert_eq!(rt; disk.create("p"), Err(CreateFault::Failed));
+    assert_eq!(rt; disk.contents("p"), None);
+    assert_eq!(rt; disk.calls(), 2);
+    let mut stopped = MemoryDisk::stopping(alloc, 1);
+    assert_eq!(rt; stopped.open("p"), Err(OpenFault::Absent));
+    assert_eq!(rt; stopped.open("p"), Err(OpenFault::Failed));
+    Ok(())
+}
+
+#[test]
+fn images_have_the_synced_bytes_and_the_later_writes(rt: HostRuntime) -> Result<(), Fail> {
+    let alloc = rt.alloc();
+    let mut disk = MemoryDisk::new(alloc, Vec::new(alloc));
+    let file = disk.create("p").map_err(|_| Memory)?;
+    assert_eq!(rt; disk.image(alloc, "p", 0)?, None);
+    write_synced(&mut disk, file, 0, &[0]).map_err(|_| Memory)?;
+    disk.write_at(file, 1, b"ab").map_err(|_| Memory)?;
+    disk.write_at(file, 0, &[1]).map_err(|_| Memory)?;
+    for (writes, want) in [
+        (0, b"\x00".as_slice()),
+        (1, b"\x00ab".as_slice()),
+        (2, b"\x01ab".as_slice()),
+        (9, b"\x01ab".as_slice()),
+    ] {
+        let image = disk.image(alloc, "p", writes)?.ok_or("no file")?;
+        assert_eq!(rt; image.as_slice(), want, "after {writes} writes");
+    }
+    assert_eq!(rt; disk.image(alloc, "q", 1)?, None);
+    Ok(())
+}
+
+#[test]
+fn a_blank_disk_reads_zeros(rt: HostRuntime) -> Result<(), Fail> {
+    let alloc = rt.alloc();
+    let mut disk = BlankDisk::new(alloc);
+    let file = disk.create("s.0").map_err(|_| Memory)?;
+    disk.write_at(file, 0, b"abc").map_err(|_| Memory)?;
+    let mut got = [7; 3];
+    disk.read_at(file, 0, &mut got).map_err(|_| Memory)?;
+    assert_eq!(rt; got, [0; 3]);
+    assert_eq!(rt; disk.create("s.0"), Err(CreateFault::Exists));
+    Ok(())
+}
+
+#[test]
+fn a_gated_file_is_whole_in_its_only_image(rt: HostRuntime) -> Result<(), Fail> {
+    let alloc = rt.alloc();
+    let mut disk = MemoryDisk::new(alloc, Vec::new(alloc));
+    write_gated(&mut disk, "p", b"body").map_err(|_| Memory)?;
+    assert_eq!(rt; disk.calls(), 7);
+    let image = disk.image(alloc, "p", 0)?.ok_or("no file")?;
+    assert_eq!(rt; image.as_slice(), b"\x01body".as_slice());
+    Ok(())
+}
+
+#[test]
+fn two_files_in_turns_keep_what_each_was_given(rt: HostRuntime) -> Result<(), Fail> {
+    let alloc = rt.alloc();
+    let mut disk = BlankDisk::new(alloc);
+    let first = disk.create("a").map_err(|_| Memory)?;
+    let second = disk.create("b").map_err(|_| Memory)?;
+    write_in_turns(&mut disk, first, second, b"abc").map_err(|_| Memory)?;
+    assert_eq!(rt; disk.size(first), 3);
+    assert_eq!(rt; disk.size(second), 3);
     Ok(())
 }
