@@ -2,26 +2,14 @@
 -- Source of the trees: the Construction document, "proving"; the numbers of table 7 are this project's own.
 -- Tables count from 1 to 7, places from 0. A place of a table n from 1 to 6 stands for 2 ^ n values;
 -- a value stands for itself, as a place of a table 0.
-use Rattle.std.specs.Prelude.{ℕ, zero, suc, ◌+◌, ◌-◌, ◌*◌, ◌/◌, ◌%◌, ◌^◌, ◌<◌, ◌==◌, nat_lt, if◌then◌else◌, List, [], ◌∷◌, ◌++◌, length, map, filter, slice_index, slice_index_or, AllPairs}
+use Rattle.std.specs.Prelude.{ℕ, zero, suc, ◌+◌, ◌-◌, ◌*◌, ◌/◌, ◌%◌, ◌^◌, ◌<◌, ◌==◌, nat_lt, if◌then◌else◌, List, [], ◌∷◌, ◌++◌, map, filter, slice_index, AllPairs}
 use Rattle.pos_points.specs.Points.{greater, lesser}
+pub use Rattle.pos_points.specs.PlotLists.{PlotLists, count}
+unfoldable pub use Rattle.pos_points.specs.PlotLists.{numbers}
 use Rattle.pos_tuple.specs.Proof.{challenge_value}
 use Rattle.pos_order.specs.Quality.{quality_index}
 
--- an id of 32 bytes, a size k, and the lists of tables 1 to 7
-pub record PlotLists : Type 0 where
-  pub id : List ℕ
-  pub k : ℕ
-  pub tables : List (List ℕ)
-
--- the numbers of a table from 1 to 7
-unfoldable pub numbers : PlotLists → ℕ → List ℕ
-numbers p zero = []
-numbers p (suc n) = slice_index_or p.tables n []
-
--- how many there are, and the one at a place
-abbrev pub count : PlotLists → ℕ → ℕ
-count p t = length (numbers p t)
-
+-- the number at a place of a table
 abbrev pub number_at : PlotLists → ℕ → ℕ → ℕ
 number_at p t i = slice_index (numbers p t) i
 
