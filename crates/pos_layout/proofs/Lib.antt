@@ -1,0 +1,17 @@
+pub mod CodecLemmas
+pub mod FileBytes
+pub mod FileCauses
+pub mod FileFields
+pub mod FileImages
+pub mod FileLemmas
+pub mod FileOnly
+pub mod FileOpening
+pub mod FileParks
+pub mod FileParts
+pub mod FilePlots
+pub mod FileTables
+pub mod LawsPoints
+pub mod LawsThere
+pub mod NumberLemmas
+pub mod ShutLemmas
+pub mod WriterLemmas

@@ -1,0 +1,274 @@
+-- A file with a closed gate, through writes and syncs.
+use Rattle.std.proofs.Common.{◌≡◌, ℕ, zero, suc, ◌+◌, ◌≤◌, max, List, [], ◌∷◌, ◌++◌, length, take, drop, get_or, Option, Some, None, is_some, true, refl, sym, ap, ◌∙◌, subst, inl, inr, arith, length-append, append_assoc, append-nil}
+use Rattle.std.proofs.lemmas.List.{length-take-le, length-drop, get_or_append_left, take_all, drop_all, get_or-take, get_or_past}
+use Rattle.std.proofs.lemmas.Bool.{cases_Bool, cases_lt}
+use Rattle.std.proofs.lemmas.Option.{none-some, same_Some}
+use Rattle.std.specs.Prelude.{Result, Ok, Err, OnOk}
+use Rattle.pos_edge.specs.View.{View, IsDisk}
+use Rattle.pos_edge.specs.Frame.{ChangesFile, NameOf}
+use Rattle.pos_edge.specs.Images.{written, Tears, Stays, ImagesBy, IsAbsentOrEmpty}
+use Rattle.pos_edge.specs.Calls.{IsThere, IsCreated, IsWritten, IsSynced, SameContents}
+use Rattle.pos_edge.proofs.Frames.{each_then, each_step, each_weaker, file_then}
+use Rattle.pos_layout.specs.Images.{IsTiny, IsShut, IsTinyOrShut, IsButGate, IsShutOr, EachImageOf, HasBytes, IsFresh, HoldsShut, Holds, opened}
+
+-- ---- bytes
+
+pub length-written : (at : ℕ) (piece b : List ℕ) → at ≤ length b → length (written at piece b) ≡ max (length b) (at + length piece)
+length-written at piece b h =
+    simp (length-append, length-drop) (let e : length (take at b) ≡ at = length-take-le at b h in rw e (omega arith))
+
+pub written_end : (at : ℕ) (piece b : List ℕ) → length b ≡ at → written at piece b ≡ b ++ piece
+written_end at piece b e =
+    let t : take at b ≡ b = take_all at b (omega arith) in
+    let d : drop (at + length piece) b ≡ [] = drop_all (at + length piece) b (omega arith) in
+    rw (t, d, append-nil) refl
+
+-- a write past the gate leaves it closed
+pub written-shut : (at : ℕ) (piece b : List ℕ) → 1 ≤ at → at ≤ length b → IsShut (Some b) → IsShut (Some (written at piece b))
+written-shut at piece b some within shut =
+    let e = length-written at piece b within in
+    let t : length (take at b) ≡ at = length-take-le at b within in (
+      omega arith,
+      ap (λ s. get_or s 0 0) (append_assoc (take at b) piece (drop (at + length piece) b))
+          ∙ get_or_append_left (take at b) (piece ++ drop (at + length piece) b) 0 0 (omega arith)
+          ∙ get_or-take at b 0 0 (omega arith) ∙ shut.1,
+    )
+
+-- ---- what a live file has
+
+pub still_there : (file : ℕ) (a b : View) → b.tells ≡ a.tells → b.name_of file ≡ a.name_of file → IsThere file a → IsThere file b
+still_there file a b tells name there = λ t. ap is_some name ∙ there (sym tells ∙ t)
+
+pub HasBytes-write : (file at : ℕ) (piece b : List ℕ) (v w : View) → at ≤ length b → HasBytes file b v → ChangesFile file v w → IsWritten file at piece v w
+    → HasBytes file (written at piece b) w
+HasBytes-write file at piece b v w within h kept done = record {
+  live = kept.live;
+  there = still_there file v w kept.frame.tells kept.name h.there;
+  size = done.size ∙ (ap (λ n. max n (at + length piece)) h.size ∙ sym (length-written at piece b within));
+  contents = λ name is. let was = sym kept.name ∙ is in done.contents name b was (h.contents name was);
+}
+
+pub HasBytes-sync : (file : ℕ) (b : List ℕ) (v w : View) → HasBytes file b v → ChangesFile file v w → w.size_of file ≡ v.size_of file → SameContents v w
+    → HasBytes file b w
+HasBytes-sync file b v w h kept size same = record {
+  live = kept.live;
+  there = still_there file v w kept.frame.tells kept.name h.there;
+  size = size ∙ h.size;
+  contents = λ name is. same name ∙ h.contents name (sym kept.name ∙ is);
+}
+
+-- a sync that succeeded leaves one image, the bytes
+pub Holds-sync : (file : ℕ) (b : List ℕ) (v w : View) → HasBytes file b v → ChangesFile file v w → w.size_of file ≡ v.size_of file → SameContents v w
+    → IsSynced file w → Holds file b w
+Holds-sync file b v w h kept size same synced =
+    let bytes = HasBytes-sync file b v w h kept size same in record {
+      bytes = bytes;
+      images = λ name is image img. synced name is image img ∙ bytes.contents name is;
+    }
+
+-- ---- images
+
+pub Tears-shut : (at n : ℕ) (before image : Option (List ℕ)) → 1 ≤ at → IsShut before → Tears at n before image → IsShut image
+Tears-shut at n None image some shut torn = absurd shut
+Tears-shut at n (Some b) None some shut torn = absurd torn
+Tears-shut at n (Some b) (Some c) some shut torn =
+    let longer = torn.no_shorter in
+    let first = shut.0 in
+    (omega arith, torn.outside 0 (omega arith) (inl (omega arith)) ∙ shut.1)
+
+pub Tears-tiny : (before image : Option (List ℕ)) → IsTiny before → Tears 0 1 before image → IsTiny image
+Tears-tiny None image tiny torn = subst IsTiny (sym torn) tt
+Tears-tiny (Some b) None tiny torn = absurd torn
+Tears-tiny (Some b) (Some c) tiny torn = let e = torn.no_longer in omega arith
+
+pub Stays-keeps : (P : Option (List ℕ) → Type 0) (before image : Option (List ℕ)) → P before → Stays before image → P image
+Stays-keeps P before image p same = subst P (sym same) p
+
+-- a call that changes images by R, from images that have P to images that have Q
+pub images_step : (P Q : Option (List ℕ) → Type 0) (R : Option (List ℕ) → Option (List ℕ) → Type 0) (file : ℕ) (v w : View)
+    → ((name : List ℕ) (image : Option (List ℕ)) → NameOf file v name → v.image name v.clock image → P image) → ImagesBy R file v w
+    → ((before image : Option (List ℕ)) → P before → R before image → Q image) → EachImageOf Q file v w
+images_step P Q R file v w now by step = λ name is. each_step name P Q R file v w is by (λ image img. now name image is img) step
+
+-- the images at the end of a call
+pub images_end : (P : Option (List ℕ) → Type 0) (file : ℕ) (v w : View) → ChangesFile file v w → EachImageOf P file v w
+    → (name : List ℕ) (image : Option (List ℕ)) → NameOf file w name → w.image name w.clock image → P image
+images_end P file v w kept each = λ name image is img. each name (sym kept.name ∙ is) w.clock image kept.frame.clock (omega arith) img
+
+-- two calls one after another
+pub images_then : (P : Option (List ℕ) → Type 0) (file : ℕ) (u v w : View) → ChangesFile file u v → ChangesFile file v w
+    → EachImageOf P file u v → EachImageOf P file v w → EachImageOf P file u w
+images_then P file u v w first second p q = λ name is.
+    each_then name P (NameOf file v) (λ f. f ≡ file) u v w second.frame (p name is) (q name (first.name ∙ is))
+
+pub images_weaker : (P Q : Option (List ℕ) → Type 0) (file : ℕ) (v w : View) → ((image : Option (List ℕ)) → P image → Q image) → EachImageOf P file v w → EachImageOf Q file v w
+images_weaker P Q file v w weaker each = λ name is. each_weaker name P Q v w weaker (each name is)
+
+-- ---- the calls
+
+pub shut_images : (file at : ℕ) (piece b : List ℕ) (v w : View) → 1 ≤ at → HoldsShut file b v → ImagesBy (Tears at (length piece)) file v w → EachImageOf IsShut file v w
+shut_images file at piece b v w some h by =
+    images_step IsShut IsShut (Tears at (length piece)) file v w h.images by (λ before image s t. Tears-shut at (length piece) before image some s t)
+
+-- a write past the gate
+pub HoldsShut-write : (file at : ℕ) (piece b : List ℕ) (v w : View) → 1 ≤ at → at ≤ length b → HoldsShut file b v → ChangesFile file v w
+    → ImagesBy (Tears at (length piece)) file v w → IsWritten file at piece v w → HoldsShut file (written at piece b) w
+HoldsShut-write file at piece b v w some within h kept by done = record {
+  bytes = HasBytes-write file at piece b v w within h.bytes kept done;
+  shut = written-shut at piece b some within h.shut;
+  images = images_end IsShut file v w kept (shut_images file at piece b v w some h by);
+}
+
+-- a write at the end
+pub HoldsShut-append : (file at : ℕ) (piece b : List ℕ) (v w : View) → length b ≡ at → HoldsShut file b v → ChangesFile file v w
+    → ImagesBy (Tears at (length piece)) file v w → IsWritten file at piece v w → HoldsShut file (b ++ piece) w
+HoldsShut-append file at piece b v w e h kept by done =
+    let some = h.shut.0 in
+    subst (λ c. HoldsShut file c w) (written_end at piece b e) (HoldsShut-write file at piece b v w (omega arith) (omega arith) h kept by done)
+
+-- the first write of a fresh file
+pub tiny_images : (file : ℕ) (piece : List ℕ) (v w : View) → length piece ≡ 1 → IsFresh file v → ImagesBy (Tears 0 (length piece)) file v w → EachImageOf IsTiny file v w
+tiny_images file piece v w e h by =
+    images_step IsTiny IsTiny (Tears 0 (length piece)) file v w h.images by (λ before image s t. Tears-tiny before image s (subst (λ n. Tears 0 n before image) e t))
+
+pub tiny_synced : (file : ℕ) (v w : View) → ((name : List ℕ) (image : Option (List ℕ)) → NameOf file v name → v.image name v.clock image → IsTiny image)
+    → ImagesBy Stays file v w → EachImageOf IsTiny file v w
+tiny_synced file v w now by = images_step IsTiny IsTiny Stays file v w now by (Stays-keeps IsTiny)
+
+-- what is on the disk with a closed gate
+pub HoldsShut-synced : (file : ℕ) (b : List ℕ) (v : View) → IsShut (Some b) → Holds file b v → HoldsShut file b v
+HoldsShut-synced file b v shut h = record {
+  bytes = h.bytes;
+  shut = shut;
+  images = λ name image is img. subst IsShut (sym (h.images name is image img)) shut;
+}
+
+-- ---- the three functions
+
+pub on_ok : {T E : Type 0} {P Q : Type 0} (r : Result T E) → (P → Q) → OnOk r P → OnOk r Q
+on_ok (Ok x) f p = f p
+on_ok (Err e) f p = p
+
+-- a fresh file after its gate is on the disk
+pub begun_shut : (file : ℕ) (piece : List ℕ) (u v w : View) → piece ≡ 0 ∷ [] → IsFresh file u → ChangesFile file u v → IsWritten file 0 piece u v
+    → ChangesFile file v w → w.size_of file ≡ v.size_of file → SameContents v w → IsSynced file w → HoldsShut file (0 ∷ []) w
+begun_shut file piece u v w e h first wrote second size same synced =
+    let bytes = HasBytes-write file 0 piece [] u v (omega arith) h.bytes first wrote in
+    HoldsShut-synced file (0 ∷ []) w (omega arith, refl)
+    (Holds-sync file (0 ∷ []) v w (subst (λ b. HasBytes file b v) (written_end 0 piece [] refl ∙ e) bytes) second size same synced)
+
+pub begun_images : (file at : ℕ) (piece rest : List ℕ) (u v w x : View) → piece ≡ 0 ∷ [] → 1 ≤ at → IsFresh file u
+    → ChangesFile file u v → ImagesBy (Tears 0 (length piece)) file u v
+    → ChangesFile file v w → ImagesBy Stays file v w → HoldsShut file (0 ∷ []) w
+    → ChangesFile file w x → ImagesBy (Tears at (length rest)) file w x → EachImageOf IsTinyOrShut file u x
+begun_images file at piece rest u v w x e some h k1 by1 k2 by2 held k3 by3 =
+    let one = tiny_images file piece u v (ap length e) h by1 in
+    let two = tiny_synced file v w (images_end IsTiny file u v k1 one) by2 in
+    let three = shut_images file at rest (0 ∷ []) w x some held by3 in
+    let wide = images_weaker IsTiny IsTinyOrShut file u w (λ i t. inl t) (images_then IsTiny file u v w k1 k2 one two) in
+    images_then IsTinyOrShut file u w x (file_then file u v w h.bytes.live k1 k2) k3 wide (images_weaker IsShut IsTinyOrShut file w x (λ i t. inr t) three)
+
+-- the header over the beginning of a file, and then the gate
+pub opened-is : (header b : List ℕ) → length header ≡ 175 → 176 ≤ length b → written 0 (1 ∷ []) (written 1 header b) ≡ opened header b
+unfolding opened
+opened-is header [] e long = absurd (omega arith)
+opened-is header (x ∷ b) e long = let d : 1 + length header ≡ 176 = omega arith in rw d refl
+
+behind : (s : List ℕ) (at : ℕ) → 1 ≤ at → get_or s at 0 ≡ get_or (written 0 (1 ∷ []) s) at 0
+behind [] zero some = absurd (omega arith)
+behind [] (suc at) some = refl
+behind (x ∷ s) zero some = absurd (omega arith)
+behind (x ∷ s) (suc at) some = refl
+
+-- the same but for the gate
+pub written-gate : (header b : List ℕ) (image : Option (List ℕ)) → length header ≡ 175 → 176 ≤ length b
+    → Tears 0 1 (Some (written 1 header b)) image → IsButGate (opened header b) image
+written-gate header b None e long torn = absurd torn
+written-gate header b (Some c) e long torn =
+    let s = written 1 header b in
+    let sn = length-written 1 header b (omega arith) in
+    let on : length (written 0 (1 ∷ []) s) ≡ max (length s) (0 + 1) = length-written 0 (1 ∷ []) s (omega arith) in
+    let is = opened-is header b e long in
+    let shorter = torn.no_shorter in
+    let longer = torn.no_longer in
+    let same : length c ≡ length (written 0 (1 ∷ []) s) = omega arith in
+    subst (λ o. IsButGate o (Some c)) is (same, λ at some. at_cases at some)
+  where
+    at_cases : (at : ℕ) → 1 ≤ at → get_or c at 0 ≡ get_or (written 0 (1 ∷ []) (written 1 header b)) at 0
+    at_cases at some = elim (cases_lt at (length (written 1 header b))) [
+      | inl inside ↦ torn.outside at inside (inr (omega arith)) ∙ behind (written 1 header b) at some
+      | inr past ↦
+          let sn = length-written 1 header b (omega arith) in
+          let on : length (written 0 (1 ∷ []) (written 1 header b)) ≡ max (length (written 1 header b)) (0 + 1) = length-written 0 (1 ∷ []) (written 1 header b) (omega arith) in
+          let longer = torn.no_longer in
+          get_or_past c at 0 (omega arith) ∙ sym (get_or_past (written 0 (1 ∷ []) (written 1 header b)) at 0 (omega arith))
+    ]
+
+pub finished_images : (file : ℕ) (header b : List ℕ) (v w : View) → length header ≡ 175 → 176 ≤ length b → Holds file (written 1 header b) v
+    → ImagesBy (Tears 0 1) file v w → EachImageOf (IsButGate (opened header b)) file v w
+finished_images file header b v w e long held by =
+    images_step (λ i. i ≡ Some (written 1 header b)) (IsButGate (opened header b)) (Tears 0 1) file v w (λ name image is img. held.images name is image img) by
+    (λ before image is torn. written-gate header b image e long (subst (λ i. Tears 0 1 i image) is torn))
+
+pub finished_synced : (file : ℕ) (o : List ℕ) (v w : View) → ((name : List ℕ) (image : Option (List ℕ)) → NameOf file v name → v.image name v.clock image → IsButGate o image)
+    → ImagesBy Stays file v w → EachImageOf (IsButGate o) file v w
+finished_synced file o v w now by = images_step (IsButGate o) (IsButGate o) Stays file v w now by (Stays-keeps (IsButGate o))
+
+-- Images up to each end of the last step: of u the start, then a write of the header, a sync, a write of the gate, a sync.
+pub shut_synced : (file : ℕ) (header b : List ℕ) (u v w : View) → HoldsShut file b u → 1 ≤ length b → ChangesFile file u v → ImagesBy (Tears 1 (length header)) file u v
+    → ChangesFile file v w → ImagesBy Stays file v w → EachImageOf IsShut file u w
+shut_synced file header b u v w held some k1 by1 k2 by2 =
+    let one = shut_images file 1 header b u v (omega arith) held by1 in
+    images_then IsShut file u v w k1 k2 one (images_step IsShut IsShut Stays file v w (images_end IsShut file u v k1 one) by2 (Stays-keeps IsShut))
+
+pub opening_images : (file : ℕ) (header b : List ℕ) (u w x : View) → length header ≡ 175 → 176 ≤ length b → u.is_live file ≡ true → ChangesFile file u w → EachImageOf IsShut file u w
+    → Holds file (written 1 header b) w → ChangesFile file w x → ImagesBy (Tears 0 1) file w x → EachImageOf (IsShutOr (opened header b)) file u x
+opening_images file header b u w x e long live k12 shut held k3 by3 =
+    images_then (IsShutOr (opened header b)) file u w x k12 k3 (images_weaker IsShut (IsShutOr (opened header b)) file u w (λ i s. inl s) shut)
+    (images_weaker (IsButGate (opened header b)) (IsShutOr (opened header b)) file w x (λ i s. inr s) (finished_images file header b w x e long held by3))
+
+pub opened_images : (file : ℕ) (header b : List ℕ) (u w x y : View) → length header ≡ 175 → 176 ≤ length b → u.is_live file ≡ true → ChangesFile file u w → EachImageOf IsShut file u w
+    → Holds file (written 1 header b) w → ChangesFile file w x → ImagesBy (Tears 0 1) file w x → ChangesFile file x y → ImagesBy Stays file x y
+    → EachImageOf (IsShutOr (opened header b)) file u y
+opened_images file header b u w x y e long live k12 shut held k3 by3 k4 by4 =
+    let gate = finished_images file header b w x e long held by3 in
+    images_then (IsShutOr (opened header b)) file u x y (file_then file u w x live k12 k3) k4 (opening_images file header b u w x e long live k12 shut held k3 by3)
+    (images_weaker (IsButGate (opened header b)) (IsShutOr (opened header b)) file x y (λ i s. inr s)
+    (finished_synced file (opened header b) x y (images_end (IsButGate (opened header b)) file w x k3 gate) by4))
+
+-- the header on the disk
+pub header_synced : (file : ℕ) (header b : List ℕ) (u v w : View) → 176 ≤ length b → HoldsShut file b u → ChangesFile file u v → IsWritten file 1 header u v
+    → ChangesFile file v w → w.size_of file ≡ v.size_of file → SameContents v w → IsSynced file w → Holds file (written 1 header b) w
+header_synced file header b u v w long held k1 wrote k2 size same synced =
+    Holds-sync file (written 1 header b) v w (HasBytes-write file 1 header b u v (omega arith) held.bytes k1 wrote) k2 size same synced
+
+-- the gate on the disk
+pub gate_synced : (file : ℕ) (header b : List ℕ) (w x y : View) → length header ≡ 175 → 176 ≤ length b → Holds file (written 1 header b) w → ChangesFile file w x
+    → IsWritten file 0 (1 ∷ []) w x → ChangesFile file x y → y.size_of file ≡ x.size_of file → SameContents x y → IsSynced file y → Holds file (opened header b) y
+gate_synced file header b w x y e long held k3 wrote k4 size same synced =
+    subst (λ o. Holds file o y) (opened-is header b e long)
+    (Holds-sync file (written 0 (1 ∷ []) (written 1 header b)) x y (HasBytes-write file 0 (1 ∷ []) (written 1 header b) w x (omega arith) held.bytes k3 wrote) k4 size same synced)
+
+-- a file that was just created is fresh
+pub created_is_fresh : (name : List ℕ) (file : ℕ) (a b : View) → IsDisk b → a.clock ≤ b.clock → IsCreated name file a b → IsFresh file b
+created_is_fresh name file a b disk later new = record {
+  bytes = record {
+    live = new.live;
+    there = λ told. ap is_some (new.named told);
+    size = new.size;
+    contents = λ n is. elim (cases_Bool b.tells) [
+      | inl told ↦ ap b.contents (same n is told) ∙ new.contents told
+      | inr silent ↦ let t = (disk.named file n is).there in absurd (none-some t.0 (sym (disk.no_contents n silent) ∙ t.1))
+    ];
+  };
+  images = λ n image is img. elim (cases_Bool b.tells) [
+    | inl told ↦ tiny image (new.images b.clock image later (omega arith) (subst (λ (m : List ℕ). b.image m b.clock image) (same n is told) img))
+    | inr silent ↦ let t = (disk.named file n is).there in absurd (none-some t.0 (sym (disk.no_contents n silent) ∙ t.1))
+  ];
+} where
+  same : (n : List ℕ) → NameOf file b n → b.tells ≡ true → n ≡ name
+  same n is told = same_Some n name (sym is ∙ new.named told)
+
+  tiny : (image : Option (List ℕ)) → IsAbsentOrEmpty image → IsTiny image
+  tiny image (inl e) = subst IsTiny (sym e) tt
+  tiny image (inr e) = subst IsTiny (sym e) (omega arith)

@@ -1,0 +1,12 @@
+use Rattle.pos_layout.proofs.FileBytes.{file-are_bytes}
+use Rattle.pos_layout.proofs.FilePlots.{file_stores}
+use Rattle.pos_layout.proofs.laws.a_file_stores_its_plot.Goals as goal
+
+pub returns-clause-stores : goal.returns-clause-stores
+returns-clause-stores c = λ l p form plot. file_stores l p form plot
+
+pub returns-clause-well : goal.returns-clause-well
+returns-clause-well c = λ l p form plot inside. record { stores = file_stores l p form plot; in_range = inside }
+
+pub returns-clause-bytes : goal.returns-clause-bytes
+returns-clause-bytes c = λ l p form plot. file-are_bytes l p form plot

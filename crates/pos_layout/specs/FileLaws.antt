@@ -1,0 +1,93 @@
+-- What is proved between the plots and the files: a plot has a file, one file alone, and a file has one plot; opening finds
+-- nothing exactly where a file opens; nothing that a crash may leave opens but the finished file.
+use Rattle.std.specs.Prelude.{◌≡◌, ◌↔◌, ℕ, ◌-◌, ◌*◌, ◌/◌, ◌<◌, ◌≤◌, ◌⊎◌, List, [], length, replicate, Some, None}
+use Rattle.pos_bits.specs.Bits.{AreBytes}
+use Rattle.pos_points.specs.Points.{greater}
+use Rattle.pos_layout.specs.declared.header.TheConstants.{LEAST_SIZE, GREATEST_SIZE}
+use Rattle.pos_layout.specs.Forms.{Form, IsForm, own}
+use Rattle.pos_layout.specs.Lists.{PlotLists, IsPlot, IsInRange}
+use Rattle.pos_layout.specs.Rules.{Opens, Stores, Well}
+use Rattle.pos_layout.specs.Files.{file_of}
+use Rattle.pos_layout.specs.declared.damage.Damage.{Damage}
+use Rattle.pos_layout.specs.Causes.{OpeningCause}
+use Rattle.pos_layout.specs.Damages.{opening}
+use Rattle.pos_layout.specs.Images.{IsTiny, IsShut, IsTinyOrShut, IsButGate, IsShutOr}
+
+-- ---- the laws speak of something
+
+-- the first layout is a form
+abbrev pub OwnIsAForm : Type 0
+OwnIsAForm = IsForm own
+
+-- an id with no number in any table
+abbrev pub bare : List ℕ → ℕ → PlotLists
+bare id k = record { id = id; k = k; tables = replicate 7 [] }
+
+-- it is a plot at each size, and in range
+abbrev pub BareIsAPlot : Type 0
+BareIsAPlot = (id : List ℕ) (k : ℕ) → length id ≡ 32 → AreBytes id → LEAST_SIZE ≤ k → k ≤ GREATEST_SIZE → IsPlot (bare id k) × IsInRange (bare id k)
+
+-- ---- a plot and its file
+
+-- the file of a plot stores it: each park is within its limit, each offset and length fits its field
+abbrev pub AFileStoresItsPlot : Type 0
+AFileStoresItsPlot = (l : Form) (p : PlotLists) → IsForm l → IsPlot p → Stores l (file_of l p) p
+
+-- so it is well where the numbers point inside
+abbrev pub AFileIsWell : Type 0
+AFileIsWell = (l : Form) (p : PlotLists) → IsForm l → IsPlot p → IsInRange p → Well l (file_of l p) p
+
+-- and what it has are bytes
+abbrev pub AFileIsBytes : Type 0
+AFileIsBytes = (l : Form) (p : PlotLists) → IsForm l → IsPlot p → AreBytes (file_of l p)
+
+-- what a file of bytes stores is a plot
+abbrev pub AStoredPlotIsAPlot : Type 0
+AStoredPlotIsAPlot = (l : Form) (b : List ℕ) (p : PlotLists) → IsForm l → AreBytes b → Stores l b p → IsPlot p
+
+-- a file stores at most one plot
+abbrev pub OnePlot : Type 0
+OnePlot = (l : Form) (b : List ℕ) (p q : PlotLists) → IsForm l → Stores l b p → Stores l b q → p ≡ q
+
+-- what stores a plot is the file of the plot
+abbrev pub OneFile : Type 0
+OneFile = (l : Form) (b : List ℕ) (p : PlotLists) → IsForm l → AreBytes b → Stores l b p → b ≡ file_of l p
+
+-- so at most one file stores it
+abbrev pub OneFileOfAPlot : Type 0
+OneFileOfAPlot = (l : Form) (b c : List ℕ) (p : PlotLists) → IsForm l → AreBytes b → AreBytes c → Stores l b p → Stores l c p → b ≡ c
+
+-- ---- opening
+
+-- opening a file by its own length finds nothing exactly where it opens
+abbrev pub OpeningFindsNothing : Type 0
+OpeningFindsNothing = (l : Form) (b : List ℕ) → (opening l b (length b) ≡ None) ↔ Opens l b
+
+-- opening a file finds each damage exactly where its cause holds
+abbrev pub OpeningFindsTheCause : Type 0
+OpeningFindsTheCause = (l : Form) (b : List ℕ) (d : Damage) → (opening l b (length b) ≡ Some d) ↔ OpeningCause l b d
+
+-- ---- what a crash may leave
+
+-- what opens and is the file of a plot but for the gate is that file
+abbrev pub OpensIsTheFile : Type 0
+OpensIsTheFile = (l : Form) (b : List ℕ) (p : PlotLists) → IsButGate (file_of l p) (Some b) → Opens l b → b ≡ file_of l p
+
+-- with a closed gate nothing opens
+abbrev pub ShutDoesNotOpen : Type 0
+ShutDoesNotOpen = (l : Form) (b : List ℕ) → IsShut (Some b) → Opens l b → ⊥
+
+-- nothing of at most one byte opens
+abbrev pub TinyDoesNotOpen : Type 0
+TinyDoesNotOpen = (l : Form) (b : List ℕ) → IsTiny (Some b) → Opens l b → ⊥
+
+-- So of all that the calls of a writer may leave of a plot's file, absent, of at most one byte, with a closed gate, or the
+-- finished file but for the gate, what opens is the finished file.
+abbrev pub OpenImageIsTheFile : Type 0
+OpenImageIsTheFile = (l : Form) (b : List ℕ) (p : PlotLists) → IsTinyOrShut (Some b) ⊎ IsShutOr (file_of l p) (Some b) → Opens l b → b ≡ file_of l p
+
+-- ---- pointers
+
+-- The greater of a line point's pair is below m exactly where the line point is below the count of pairs of numbers below m.
+abbrev pub PointsInsideByPairs : Type 0
+PointsInsideByPairs = (n m : ℕ) → (greater n < m) ↔ (n < m * (m - 1) / 2)

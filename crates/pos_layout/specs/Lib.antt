@@ -1,0 +1,12 @@
+pub mod Bytes
+pub mod Causes
+pub mod Damages
+pub mod Drafts
+pub mod Fields
+pub mod FileLaws
+pub mod Files
+pub mod Forms
+pub mod Images
+pub mod Lists
+pub mod Reading
+pub mod Rules

@@ -1,0 +1,52 @@
+//! What holds of plot files, whatever the code: each law is what a function with an empty body ensures.
+
+ghost use Rattle.pos_layout.specs.FileLaws.{OwnIsAForm, BareIsAPlot, AFileStoresItsPlot, AFileIsWell, AFileIsBytes, AStoredPlotIsAPlot, OnePlot, OneFile, OneFileOfAPlot, OpeningFindsNothing, OpeningFindsTheCause, OpenImageIsTheFile, OpensIsTheFile, ShutDoesNotOpen, TinyDoesNotOpen, PointsInsideByPairs};
+
+/// The first layout is a form, and at each size each id has a plot with seven empty tables, so the laws below speak of something.
+pub fn forms_and_plots_are_there()
+    ensures form { OwnIsAForm }
+    ensures plot { BareIsAPlot }
+{}
+
+/// The file of a plot stores it, and is well where the pointers are in range. Parks are within their limit: nothing is asked of
+/// their lengths.
+pub fn a_file_stores_its_plot()
+    ensures stores { AFileStoresItsPlot }
+    ensures well { AFileIsWell }
+    ensures bytes { AFileIsBytes }
+{}
+
+/// What a file of bytes stores is a plot, and the file stores no other.
+pub fn a_file_has_one_plot()
+    ensures a_plot { AStoredPlotIsAPlot }
+    ensures one { OnePlot }
+{}
+
+/// What stores a plot is the file of the plot, so at most one file stores it.
+pub fn a_plot_has_one_file()
+    ensures the_file { OneFile }
+    ensures one { OneFileOfAPlot }
+{}
+
+/// Opening finds nothing exactly where the file opens.
+pub fn opening_finds_nothing_where_a_file_opens()
+    ensures { OpeningFindsNothing }
+{}
+
+/// Opening finds each damage exactly where its cause holds: the tests before it found all right, and its own found it wrong.
+pub fn opening_finds_each_damage_by_its_cause()
+    ensures { OpeningFindsTheCause }
+{}
+
+/// Of what a crash may leave of a file that is written, nothing opens but the finished file.
+pub fn only_the_finished_file_opens()
+    ensures tiny { TinyDoesNotOpen }
+    ensures shut { ShutDoesNotOpen }
+    ensures finished { OpensIsTheFile }
+    ensures any_image { OpenImageIsTheFile }
+{}
+
+/// The greater of a line point's pair is below a count exactly where the line point is below the count of pairs below it.
+pub fn points_inside_are_counted_by_pairs()
+    ensures { PointsInsideByPairs }
+{}

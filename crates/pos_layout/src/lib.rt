@@ -1,0 +1,22 @@
+//! The plot file: its layout, what its bytes mean, and its writer.
+#![tactic(auto)]
+
+mod bytes;
+mod damage;
+mod entry;
+mod form;
+mod header;
+pub mod laws;
+mod shut;
+mod writer;
+
+pub use damage::{Damage, HeaderField};
+pub use entry::{ENTRY_BYTES, ParkEntry, decode_entry, encode_entry};
+pub use form::{longest_park, park_count, park_digest, parks_of};
+pub use header::{
+    Column, GREATEST_SIZE, HEADER_BYTES, Header, LEAST_SIZE, decode_header, encode_header,
+};
+pub use writer::PlotWriter;
+
+#[cfg(test)]
+mod tests;
