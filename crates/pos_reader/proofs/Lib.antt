@@ -1,0 +1,7 @@
+pub mod AnswerLemmas
+pub mod EntryLemmas
+pub mod HeaderLemmas
+pub mod OpeningLemmas
+pub mod ParkLemmas
+pub mod ReadLemmas
+pub mod StoredLemmas

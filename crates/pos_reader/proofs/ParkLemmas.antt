@@ -1,0 +1,117 @@
+-- The tests of a park, one after another, and line points below a limit.
+use Rattle.std.proofs.Common.{◌≡◌, ℕ, ◌+◌, ◌-◌, ◌*◌, ◌/◌, ◌%◌, ◌^◌, ◌<◌, ◌≤◌, ◌≢◌, nat_lt, ◌||◌, not, refl, sym, ◌∙◌, arith, Bool, true, false, ◌&&◌, List, take, slice_index, Some, None, Ok, Err, inl, inr, add-one, pow-suc}
+use Rattle.std.specs.Str.{bytes_eq}
+use Rattle.std.proofs.lemmas.Bool.{false≢true, cases_lt}
+use Rattle.std.proofs.lemmas.Bool.Decides.{nat_tests}
+use Rattle.std.proofs.lemmas.Slice.Eq.{bytes_eq-Decides}
+use Rattle.sha2.specs.Sha256.{sha256}
+use Rattle.pos_points.specs.Points.{greater}
+use Rattle.pos_layout.proofs.LawsPoints.{inside_by_count}
+use Rattle.pos_rice.specs.Reading.{numbers_in}
+use Rattle.pos_layout.specs.declared.header.Header.{Header}
+use Rattle.pos_layout.specs.declared.entry.ParkEntry.{ParkEntry}
+use Rattle.pos_layout.specs.declared.damage.Damage.TheVariants.{Directory, Digest, Form as WrongForm}
+use Rattle.pos_layout.specs.Forms.{own}
+use Rattle.pos_layout.specs.Lists.{f7_in, points_inside}
+use Rattle.pos_reader.proofs.EntryLemmas.{not_true}
+use Rattle.pos_reader.proofs.HeaderLemmas.{eq_true, eq_false}
+use Rattle.pos_layout.specs.Reading.{is_headed, numbers_by}
+
+-- ---- equal and different bytes
+
+pub same_bytes : (xs ys : List ℕ) → xs ≡ ys → bytes_eq xs ys ≡ true
+same_bytes xs ys e = (bytes_eq-Decides xs ys).1 e
+
+pub other_bytes : (xs ys : List ℕ) → (xs ≡ ys → ⊥) → bytes_eq xs ys ≡ false
+other_bytes xs ys apart = not_true (bytes_eq xs ys) (λ e. apart ((bytes_eq-Decides xs ys).0 e))
+
+-- ---- the numbers of a park by its entry
+
+-- the park's digest is the entry's
+abbrev pub is_digest : ParkEntry → List ℕ → Bool
+is_digest e s = bytes_eq (take 8 (sha256 s)) e.digest
+
+pub numbers-digest : (h : Header) (t park : ℕ) (e : ParkEntry) (s : List ℕ) → is_digest e s ≡ false → numbers_by own h t park e s ≡ Err (Digest t park)
+unfolding numbers_by
+numbers-digest h t park e s wrong = rw wrong refl
+
+pub numbers-form : (h : Header) (t park : ℕ) (e : ParkEntry) (s : List ℕ) → is_digest e s ≡ true → numbers_in h.size e.count s ≡ None → numbers_by own h t park e s ≡ Err (WrongForm t park)
+unfolding numbers_by
+numbers-form h t park e s right none = rw (right, none) refl
+
+pub numbers-head : (h : Header) (t park : ℕ) (e : ParkEntry) (s ns : List ℕ) → is_digest e s ≡ true → numbers_in h.size e.count s ≡ Some ns → is_headed h t e ns ≡ false → numbers_by own h t park e s ≡ Err (Directory t park)
+unfolding numbers_by
+numbers-head h t park e s ns right some wrong = rw (right, some, wrong) refl
+
+pub numbers-all : (h : Header) (t park : ℕ) (e : ParkEntry) (s ns : List ℕ) → is_digest e s ≡ true → numbers_in h.size e.count s ≡ Some ns → is_headed h t e ns ≡ true → numbers_by own h t park e s ≡ Ok ns
+unfolding numbers_by
+numbers-all h t park e s ns right some headed = rw (right, some, headed) refl
+
+-- ---- line points below a limit
+
+pub lt_true : (m n : ℕ) → m < n → nat_lt m n ≡ true
+lt_true m n e = grind (arith, nat_tests)
+
+pub lt_false : (m n : ℕ) → n ≤ m → nat_lt m n ≡ false
+lt_false m n e = grind (arith, nat_tests)
+
+-- the greater number of a line point's pair is below the limit exactly where the point is below the first point of the limit
+pub point_below : (s limit : ℕ) → nat_lt s (limit * (limit - 1) / 2) ≡ nat_lt (greater s) limit
+point_below s limit = elim (cases_lt (greater s) limit) [
+  | inl less ↦ lt_true _ _ ((inside_by_count s limit).0 less) ∙ sym (lt_true _ _ less)
+  | inr most ↦ lt_false _ _ (above most) ∙ sym (lt_false _ _ most)
+]
+  where
+    above : limit ≤ greater s → limit * (limit - 1) / 2 ≤ s
+    above most = elim (cases_lt s (limit * (limit - 1) / 2)) [
+      | inl less ↦ let below = (inside_by_count s limit).1 less in absurd (omega arith)
+      | inr more ↦ more
+    ]
+
+-- ---- the head of a park
+
+pub not_means : (b : Bool) → not b ≡ true → b ≡ false
+not_means true e = absurd (false≢true e)
+not_means false e = refl
+
+pub not_not : (b : Bool) → not b ≡ false → b ≡ true
+not_not true e = refl
+not_not false e = absurd (false≢true (sym e))
+
+pub headed_elsewhere : (h : Header) (t : ℕ) (e : ParkEntry) (ns : List ℕ) → t ≢ 7 → is_headed h t e ns ≡ true
+headed_elsewhere h t e ns apart = rw (eq_false t 7 apart) refl
+
+pub headed_right : (h : Header) (t : ℕ) (e : ParkEntry) (ns : List ℕ) → e.head ≡ f7_in h.size (slice_index ns 0) → is_headed h t e ns ≡ true
+headed_right h t e ns same = or_last _ _ (eq_true _ _ same)
+  where
+    or_last : (a b : Bool) → b ≡ true → (a || b) ≡ true
+    or_last true b e = refl
+    or_last false b e = e
+
+pub headed_wrong : (h : Header) (t : ℕ) (e : ParkEntry) (ns : List ℕ) → t ≡ 7 → e.head ≢ f7_in h.size (slice_index ns 0) → is_headed h t e ns ≡ false
+headed_wrong h t e ns seven wrong = rw (eq_true t 7 seven) (eq_false _ _ wrong)
+
+-- ---- where a number points
+
+pub twice_values : (k : ℕ) → 2 * 2 ^ k ≡ 2 ^ (k + 1)
+twice_values k = let e = pow-suc 2 k in rw add-one (omega arith)
+
+pub pointed_first : (k t before n : ℕ) → t ≡ 1 → points_inside k t before n ≡ nat_lt (greater n) (2 ^ k)
+unfolding points_inside
+pointed_first k t before n one = rw one refl
+
+pub pointed_middle : (k t before n : ℕ) → t ≢ 1 → t ≢ 7 → points_inside k t before n ≡ nat_lt (greater n) before
+unfolding points_inside
+pointed_middle k t before n first last = rw (eq_false t 7 last, eq_false t 1 first) refl
+
+pub pointed_last : (k t before n values : ℕ) → t ≡ 7 → values ≡ 2 ^ k → points_inside k t before n ≡ (nat_lt (n / (2 * values)) values && nat_lt (n % (2 * values)) before)
+unfolding points_inside
+pointed_last k t before n values last are = rw (last, are, twice_values k) refl
+
+pub and_first : (a b : Bool) → a ≡ true → (a && b) ≡ b
+and_first true b e = refl
+and_first false b e = absurd (false≢true e)
+
+pub and_fails : (a b : Bool) → a ≡ false → (a && b) ≡ a
+and_fails true b e = absurd (false≢true (sym e))
+and_fails false b e = refl
