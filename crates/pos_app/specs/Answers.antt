@@ -1,12 +1,19 @@
 -- How a run ends: its status, and what went to the sink.
-use Rattle.std.specs.Prelude.{◌≡◌, ℕ, List, ◌⊎◌, Option}
+use Rattle.std.specs.Prelude.{◌≡◌, ℕ, List, length, ◌⊎◌, true, Option, Some, None}
 use Rattle.pos_edge.specs.Faults.{Rose}
 use Rattle.pos_edge.specs.Sinks.{followed_by, AppendsPartOf}
+use Rattle.pos_edge.specs.View.{View}
+use Rattle.pos_layout.specs.declared.header.Header.{Header}
+use Rattle.pos_layout.specs.declared.damage.Damage.{Damage}
+use Rattle.pos_layout.specs.Forms.{own}
+use Rattle.pos_layout.specs.Fields.{header_in}
+use Rattle.pos_layout.specs.Rules.{Opens}
+use Rattle.pos_layout.specs.Damages.{opening}
 use Rattle.pos_verify.specs.Verdict.{IsProofBytes, IsRight}
 use Rattle.pos_verify.specs.declared.Verdict.{Verdict}
 use Rattle.pos_verify.specs.declared.Verdict.TheVariants.{Accepted, WrongLength, NoMatch, WrongChallenge}
-use Rattle.pos_app.specs.Texts.{verdict_line}
-use Rattle.pos_app.specs.Command.{Command, Verify}
+use Rattle.pos_app.specs.Texts.{verdict_line, inspect_text, absent_line, disk_fault_line, damage_line}
+use Rattle.pos_app.specs.Command.{Command, Verify, Inspect}
 
 -- a sink at a moment: the text that it was given, where it tells it, and how often it has failed
 pub record Heard : Type 0 where
@@ -66,10 +73,47 @@ pub record TellsProofs (id : List ℕ) (k : ℕ) (challenge proof : List ℕ) (r
   pub refused : result ≡ 1 → IsProofBytes id k challenge proof → ⊥
   pub refuses : (IsProofBytes id k challenge proof → ⊥) → EndsWith 1 result
 
+-- `inspect FILE` shows a header: over a disk that tells, that of the file's bytes, which open
+pub record ShowsHeader (file : List ℕ) (disk : View) (result : ℕ) (old new : Heard) : Type 0 where
+  pub header : Header
+  pub said : Speaks 0 (inspect_text header) result old new
+  pub told : disk.tells ≡ true → (b : List ℕ) × (disk.contents file ≡ Some b) × Opens own b × (header ≡ header_in b)
+
+-- or a damage: over a disk that tells, the first that opening the file's bytes finds
+pub record ShowsDamage (file : List ℕ) (disk : View) (result : ℕ) (old new : Heard) : Type 0 where
+  pub damage : Damage
+  pub said : Speaks 4 (damage_line damage) result old new
+  pub told : disk.tells ≡ true → (b : List ℕ) × (disk.contents file ≡ Some b) × (opening own b (length b) ≡ Some damage)
+
+-- or that no file has the name: over a disk that tells, none has
+pub record ShowsAbsence (file : List ℕ) (disk : View) (result : ℕ) (old new : Heard) : Type 0 where
+  pub said : Speaks 5 (absent_line file) result old new
+  pub absent : disk.contents file ≡ None
+
+-- or that the disk failed: its count of faults rose
+pub record ShowsDiskFault (before after : View) (result : ℕ) (old new : Heard) : Type 0 where
+  pub said : Speaks 3 disk_fault_line result old new
+  pub cause : Rose before.faults after.faults
+
+-- the answer of `inspect FILE`, but for want of memory
+abbrev pub SaysInspection : List ℕ → View → View → ℕ → Heard → Heard → Type 0
+SaysInspection file before after result old new =
+    (ShowsHeader file before result old new
+    ⊎ (ShowsDamage file before result old new
+    ⊎ (ShowsAbsence file before result old new ⊎ ShowsDiskFault before after result old new)))
+    ⊎ IsUnsaid result old new
+
 -- what the answer to a command says,
-abbrev pub SaysAnswer : Command → ℕ → Heard → Heard → Type 0
-SaysAnswer (Verify id k challenge proof) result old new = SaysVerdict id k challenge proof result old new
+abbrev pub SaysAnswer : Command → View → View → ℕ → Heard → Heard → Type 0
+SaysAnswer (Verify id k challenge proof) before after result old new = SaysVerdict id k challenge proof result old new
+SaysAnswer (Inspect file) before after result old new = SaysInspection file before after result old new
 
 -- and what its status tells
 abbrev pub TellsAnswer : Command → ℕ → Type 0
 TellsAnswer (Verify id k challenge proof) result = TellsProofs id k challenge proof result
+TellsAnswer (Inspect file) result = Unit {0}
+
+-- a command that makes no call on the disk leaves it alone
+abbrev pub LeavesAlone : Command → Type 0 → Type 0
+LeavesAlone (Verify id k challenge proof) alone = alone
+LeavesAlone (Inspect file) alone = Unit {0}

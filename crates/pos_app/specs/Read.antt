@@ -1,12 +1,13 @@
 -- A command as the program holds it. This is for private functions; no public clause speaks of it.
-use Rattle.std.specs.Prelude.{◌≡◌, ◌≢◌, List, ℕ, length, slice_index, Option, Some, None}
-use Rattle.pos_app.specs.Command.{Command as Meant, Verify as MeantVerify}
+use Rattle.std.specs.Prelude.{◌≡◌, ◌≢◌, List, ℕ, length, slice_index, string_bytes, Option, Some, None}
+use Rattle.pos_app.specs.Command.{Command as Meant, Verify as MeantVerify, Inspect as MeantInspect}
 use Rattle.pos_app.specs.declared.command.Command.{Command}
-use Rattle.pos_app.specs.declared.command.Command.TheVariants.{Verify}
+use Rattle.pos_app.specs.declared.command.Command.TheVariants.{Verify, Inspect}
 
 -- the command that the program holds
 abbrev pub meant : Command → Meant
 meant (Verify judged) = MeantVerify judged.id.0 judged.size judged.challenge.0 judged.proof.items
+meant (Inspect file) = MeantInspect (string_bytes file)
 
 -- it is the one that the words are, or there is none
 abbrev pub Reads : Option Command → Option Meant → Type 0

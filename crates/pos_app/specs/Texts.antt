@@ -1,8 +1,14 @@
 -- The lines that the program writes: words with one blank between two of them, and one newline at the end. Numbers are
 -- decimal without leading zeros, bytes are hexadecimal in lower case.
-use Rattle.std.specs.Prelude.{ℕ, List, [], ◌∷◌, ◌++◌, codes}
+use Rattle.std.specs.Prelude.{ℕ, suc, List, [], ◌∷◌, ◌++◌, codes}
 use Rattle.std.specs.Fmt.{decimal}
 use Rattle.hex.specs.Hex.{encode_lower}
+use Rattle.pos_layout.specs.declared.header.Header.{Header}
+use Rattle.pos_layout.specs.Fields.{count_of}
+use Rattle.pos_layout.specs.declared.damage.HeaderField.{HeaderField}
+use Rattle.pos_layout.specs.declared.damage.HeaderField.TheVariants.{Name, Size, Zeros, Counts}
+use Rattle.pos_layout.specs.declared.damage.Damage.{Damage}
+use Rattle.pos_layout.specs.declared.damage.Damage.TheVariants.{NotOpen, Header as WrongHeader, Length, Directory, Digest, Form, Pointer, NotAProof}
 use Rattle.pos_verify.specs.declared.Verdict.{Verdict}
 use Rattle.pos_verify.specs.declared.Verdict.TheVariants.{Accepted, WrongLength, NoMatch, WrongChallenge}
 
@@ -22,3 +28,61 @@ verdict_line (Accepted quality) = line (codes "accepted" ∷ encode_lower qualit
 verdict_line (WrongLength want found) = line (codes "refused" ∷ codes "length" ∷ decimal want ∷ decimal found ∷ [])
 verdict_line (NoMatch level pair) = line (codes "refused" ∷ codes "match" ∷ decimal level ∷ decimal pair ∷ [])
 verdict_line (WrongChallenge want found) = line (codes "refused" ∷ codes "challenge" ∷ decimal want ∷ decimal found ∷ [])
+
+-- the lines of an id and of a size
+abbrev pub id_line : List ℕ → List ℕ
+id_line id = line (codes "id" ∷ encode_lower id ∷ [])
+
+abbrev pub size_line : ℕ → List ℕ
+size_line k = line (codes "k" ∷ decimal k ∷ [])
+
+-- the line of table t, and those of the tables from t on by their counts
+abbrev pub table_line : ℕ → ℕ → List ℕ
+table_line t count = line (codes "table" ∷ decimal t ∷ decimal count ∷ [])
+
+abbrev pub table_lines : ℕ → List ℕ → List ℕ
+table_lines t [] = []
+table_lines t (count ∷ counts) = table_line t count ++ table_lines (suc t) counts
+
+abbrev pub length_line : ℕ → List ℕ
+length_line file_length = line (codes "length" ∷ decimal file_length ∷ [])
+
+-- the lines of an id, a size, the counts of the tables from 1 on and a length
+abbrev pub header_lines : List ℕ → ℕ → List ℕ → ℕ → List ℕ
+header_lines id k counts file_length =
+    id_line id ++ (size_line k ++ (table_lines 1 counts ++ length_line file_length))
+
+-- what is said of the header of a plot file
+abbrev pub inspect_text : Header → List ℕ
+inspect_text h =
+    header_lines h.id.0 h.size
+    (count_of h 1 ∷ count_of h 2 ∷ count_of h 3 ∷ count_of h 4 ∷ count_of h 5 ∷ count_of h 6 ∷ count_of h 7 ∷ [])
+    h.file_length
+
+-- what is said where no file has the name, and where the disk failed
+abbrev pub absent_line : List ℕ → List ℕ
+absent_line name = line (codes "absent" ∷ name ∷ [])
+
+abbrev pub disk_fault_line : List ℕ
+disk_fault_line = line (codes "disk" ∷ codes "fault" ∷ [])
+
+-- a field of the header
+abbrev pub field_name : HeaderField → List ℕ
+field_name Name = codes "name"
+field_name Size = codes "size"
+field_name Zeros = codes "zeros"
+field_name Counts = codes "counts"
+
+-- what is said of a damage
+abbrev pub damage_words : Damage → List (List ℕ)
+damage_words (NotOpen file_length gate) = codes "not-open" ∷ decimal file_length ∷ decimal gate ∷ []
+damage_words (WrongHeader field) = codes "header" ∷ field_name field ∷ []
+damage_words (Length said found) = codes "length" ∷ decimal said ∷ decimal found ∷ []
+damage_words (Directory table park) = codes "directory" ∷ decimal table ∷ decimal park ∷ []
+damage_words (Digest table park) = codes "digest" ∷ decimal table ∷ decimal park ∷ []
+damage_words (Form table park) = codes "form" ∷ decimal table ∷ decimal park ∷ []
+damage_words (Pointer table at) = codes "pointer" ∷ decimal table ∷ decimal at ∷ []
+damage_words (NotAProof at) = codes "not-a-proof" ∷ decimal at ∷ []
+
+abbrev pub damage_line : Damage → List ℕ
+damage_line d = line (codes "damage" ∷ damage_words d)

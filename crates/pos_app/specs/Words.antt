@@ -26,3 +26,7 @@ bytes_word word = result_ok (decode_of word)
 -- the 32 bytes that 64 hexadecimal digits write
 abbrev pub hash_word : List ℕ → Option (List ℕ)
 hash_word word = if length word == 64 then bytes_word word else None
+
+-- the name of a file: not empty, and with no `-` (45) in front
+abbrev pub file_word : List ℕ → Option (List ℕ)
+file_word word = if nat_lt 0 (length word) && not (slice_index word 0 == 45) then Some word else None

@@ -2,8 +2,8 @@
 ghost use Rattle.std.specs.Prelude.{◌≡◌, ◌≤◌, ◌^◌, map, IfOk, IsOk, IfSome, IfNone, IsTrue, ◌↔◌, Some, string_bytes};
 ghost use Rattle.std.specs.Bool.{IsFalse};
 ghost use Rattle.std.specs.Option.{option_map};
-ghost use Rattle.pos_app.specs.Words.{decimal_word, size_word, hash_word, bytes_word};
-ghost use Rattle.pos_app.specs.Command.{command_of, names_command, verify_command};
+ghost use Rattle.pos_app.specs.Words.{decimal_word, size_word, hash_word, bytes_word, file_word};
+ghost use Rattle.pos_app.specs.Command.{command_of, names_command, verify_command, inspect_command};
 ghost use Rattle.pos_app.specs.Read.{Reads, IsPlain};
 
 use hex::{FromHex, FromHexError};
@@ -16,6 +16,8 @@ use std::alloc::Global;
 pub enum Command {
     /// Judge the bytes of a proof.
     Verify(Judged),
+    /// Show what the header of the plot file of this name says.
+    Inspect(String),
 }
 
 /// The bytes of a proof, with what they are to be a proof for.
@@ -34,6 +36,7 @@ pub fn read_command(alloc: Global, words: &[String]) -> Result<Option<Command>, 
 {
     match words.split_first() {
         Some((name, rest)) if name.as_str() == "verify" => read_verify(alloc, rest),
+        Some((name, rest)) if name.as_str() == "inspect" => read_inspect(alloc, rest),
         _ => Ok(None),
     }
 }
@@ -63,6 +66,32 @@ fn read_verify(alloc: Global, words: &[String]) -> Result<Option<Command>, Memor
         challenge: Challenge(challenge),
         proof,
     })))
+}
+
+// Reads the word behind `inspect`.
+fn read_inspect(alloc: Global, words: &[String]) -> Result<Option<Command>, Memory>
+    ensures { IfOk result (λ command. Reads command (inspect_command (map string_bytes words.now))) }
+{
+    if words.len() != 1 {
+        return Ok(None);
+    }
+    let Some(file) = read_file(words[0].as_str()) else {
+        return Ok(None);
+    };
+    match String::from_str(alloc, file) {
+        Ok(file) => Ok(Some(Command::Inspect(file))),
+        Err(_) => Err(Memory),
+    }
+}
+
+// The name of a file.
+fn read_file(word: &str) -> Option<&str>
+    ensures { option_map (λ file. file.now) result ≡ file_word word.now }
+{
+    match word.as_bytes().first() {
+        None | Some(b'-') => None,
+        Some(_) => Some(word),
+    }
 }
 
 // The 32 bytes that 64 hexadecimal digits write.

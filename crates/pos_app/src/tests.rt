@@ -1,3 +1,4 @@
+mod inspect;
 mod search;
 
 use crate::run;
@@ -84,7 +85,7 @@ fn refusals_name_the_first_failing_test(rt: HostRuntime) -> Result<(), Fail> {
 #[test]
 fn words_that_are_no_command_answer_the_usage_line(rt: HostRuntime) -> Result<(), Fail> {
     let alloc = rt.alloc();
-    let words: [&[&str]; 12] = [
+    let words: [&[&str]; 16] = [
         &[],
         &["verify"],
         &["plot", ID, "10", "p", "s"],
@@ -97,6 +98,10 @@ fn words_that_are_no_command_answer_the_usage_line(rt: HostRuntime) -> Result<()
         &["verify", ID, "18", ID, "0g"],
         &["verify", ID, "-18", ID, ""],
         &["verify", ID, "18", ID, "", ""],
+        &["inspect"],
+        &["inspect", ""],
+        &["inspect", "-p"],
+        &["inspect", "p", "q"],
     ];
     for words in words {
         let (status, text) = answer(alloc, words, false)?;
