@@ -408,3 +408,87 @@ fn a_disk_that_reads_zeros_shows_no_plot(rt: HostRuntime) -> Result<(), Fail> {
     );
     Ok(())
 }
+
+/// The number that eight bytes from a place on write, the first one highest.
+fn eight(bytes: &[u8], at: usize) -> Option<u64> {
+    let mut number = 0u64;
+    for byte in bytes.get(at..at.checked_add(8)?)? {
+        number = number.wrapping_mul(256).wrapping_add(u64::from(*byte));
+    }
+    Some(number)
+}
+
+/// The first table whose directory does not lie where it has to, by plain sums.
+fn misplaced(bytes: &[u8], length: u64) -> Option<Damage> {
+    let mut end = 176u128;
+    for table in 1..=7u8 {
+        let at = 40 + 16 * usize::from(table);
+        let count = u128::from(eight(bytes, at)?);
+        let directory = u128::from(eight(bytes, at + 8)?);
+        let behind = directory + 32 * count.div_ceil(2048);
+        if directory < end || behind > u128::from(length) || (count == 0 && directory != end) {
+            return Some(Damage::Directory { table, park: 0 });
+        }
+        end = behind;
+    }
+    if end != u128::from(length) {
+        return Some(Damage::Directory { table: 7, park: 0 });
+    }
+    None
+}
+
+/// The first rule that a file breaks, as it stands in the format's table.
+fn first_broken(bytes: &[u8]) -> Option<Damage> {
+    let length = bytes.len() as u64;
+    let gate = bytes.first().copied().unwrap_or(0);
+    if length < 176 || gate != 1 {
+        return Some(Damage::NotOpen { length, gate });
+    }
+    let field = |field| Some(Damage::Header { field });
+    if bytes.get(1..16)? != b"SPACEPLOT-OWN-1".as_slice() {
+        return field(HeaderField::Name);
+    }
+    let k = *bytes.get(48)?;
+    if k < 10 || k > 32 {
+        return field(HeaderField::Size);
+    }
+    if bytes.get(49..56)?.iter().any(|byte| *byte != 0) {
+        return field(HeaderField::Zeros);
+    }
+    for table in 1..=7usize {
+        if eight(bytes, 40 + 16 * table)? > 2 << k {
+            return field(HeaderField::Counts);
+        }
+    }
+    let said = eight(bytes, 168)?;
+    if said != length {
+        return Some(Damage::Length {
+            said,
+            found: length,
+        });
+    }
+    misplaced(bytes, length)
+}
+
+/// Whether opening shows the first rule that these bytes break.
+fn is_named(alloc: Global, bytes: &[u8]) -> Result<bool, Memory> {
+    let want = first_broken(bytes).map(OpenRefusal::Damage);
+    Ok(refusal_of(alloc, bytes)? == want)
+}
+
+#[test]
+fn each_cut_and_each_changed_byte_shows_the_first_broken_rule(rt: HostRuntime) -> Result<(), Fail> {
+    let alloc = rt.alloc();
+    for length in 0..=428usize {
+        let mut bytes = small_file(alloc)?;
+        bytes.truncate(length);
+        assert!(rt; is_named(alloc, bytes.as_slice())?, "{length} bytes");
+    }
+    for at in 0..428usize {
+        for byte in [0, 1, 0x7f, 0x80, 0xff] {
+            let bytes = changed(alloc, &[(at, byte)])?;
+            assert!(rt; is_named(alloc, bytes.as_slice())?, "byte {at} made {byte}");
+        }
+    }
+    Ok(())
+}
