@@ -119,3 +119,18 @@ fn a_folder_is_no_file(rt: HostRuntime) -> Result<(), Fail> {
     fs::remove_dir(&rt, "pos_host_folder")?;
     Ok(())
 }
+
+#[test]
+fn a_file_is_listed_until_it_is_removed(rt: HostRuntime) -> Result<(), Fail> {
+    let mut disk = HostDisk::new(&rt, rt.alloc());
+    fs::create_dir(&rt, "pos_host_listed")?;
+    let file = disk.create("pos_host_listed/p").map_err(|_| "not created")?;
+    let mut listed = fs::read_dir(&rt, "pos_host_listed")?;
+    let entry = listed.next().ok_or("not listed")??;
+    assert_eq!(rt; entry.file_name(), "p");
+    assert!(rt; listed.next().is_none());
+    disk.remove(file).map_err(|_| "not removed")?;
+    assert!(rt; fs::read_dir(&rt, "pos_host_listed")?.next().is_none());
+    fs::remove_dir(&rt, "pos_host_listed")?;
+    Ok(())
+}
