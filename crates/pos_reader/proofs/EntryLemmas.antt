@@ -8,9 +8,9 @@ use Rattle.pos_layout.specs.Forms.{own, longest_park, park_count, parks_of}
 use Rattle.pos_layout.specs.declared.damage.Damage.{Damage}
 use Rattle.pos_layout.specs.Bytes.{part}
 use Rattle.pos_layout.specs.Fields.{count_of, directory_of, end_of, entry_in, header_in}
-use Rattle.pos_layout.specs.Reading.{is_listed, numbers_by, read_entry, read_park, tested}
+use Rattle.pos_layout.specs.Reading.{is_listed, numbers_by, read_entry, read_park}
 use Rattle.pos_layout.specs.Rules.{IsLaidOut}
-use Rattle.pos_reader.specs.Steps.{HasCounts, IsPark, listed}
+use Rattle.pos_reader.specs.Steps.{IsPark, listed}
 use Rattle.pos_reader.proofs.HeaderLemmas.{both_left, both_right, end_of-at, eq_true, eq_means, le_means, le_true}
 
 -- the tests of an entry, each by what it means
@@ -65,19 +65,7 @@ pub not_true : (b : Bool) → (b ≡ true → ⊥) → b ≡ false
 not_true true fails = absurd (fails refl)
 not_true false fails = refl
 
--- an entry that is listed has the head that its table wants
-pub listed_headed : (h : Header) (t park : ℕ) (e : ParkEntry) → is_listed own h t park e ≡ true → ((t == 7) || (e.head == 0)) ≡ true
-unfolding is_listed
-listed_headed h t park e all = both_right _ _ all
-
 -- ---- a laid out header
-
-pub counts_of : (h : Header) → IsLaidOut own h → HasCounts h
-counts_of h laid = record { size = laid.greatest; counts = laid.counts }
-
--- a park that is there begins inside the numbers of its table
-pub park_begins : (n park : ℕ) → park < parks_of own n → 2048 * park < n
-park_begins n park there = omega arith
 
 -- the entry of a park that is there lies inside the file
 pub entry_inside : (h : Header) (t park : ℕ) → IsLaidOut own h → IsPark own h t park → directory_of h t + 32 * park + 32 ≤ h.file_length
@@ -100,10 +88,6 @@ park_few n park = omega arith
 pub entry_read : (b s : List ℕ) (h : Header) (t park : ℕ) → h ≡ header_in b → s ≡ part b (directory_of h t + 32 * park) 32 → read_entry own b t park ≡ listed own h t park s
 unfolding read_entry entry_in
 entry_read b s h t park same are = rw (are, same) refl
-
-pub tested_ok : {X : Type 0} (holds : Bool) (d : Damage) (x y : X) → Ok y ≡ tested holds d x → (holds ≡ true) × (y ≡ x)
-tested_ok true d x y e = (refl, cc)
-tested_ok false d x y e = cc
 
 -- ---- a park in the file
 

@@ -13,7 +13,6 @@ use Rattle.pos_layout.specs.declared.entry.ParkEntry.{ParkEntry}
 use Rattle.pos_layout.specs.declared.damage.Damage.TheVariants.{Directory, Digest, Form as WrongForm}
 use Rattle.pos_layout.specs.Forms.{own}
 use Rattle.pos_layout.specs.Lists.{f7_in, points_inside}
-use Rattle.pos_reader.proofs.EntryLemmas.{not_true}
 use Rattle.pos_reader.proofs.HeaderLemmas.{eq_true, eq_false}
 use Rattle.pos_layout.specs.Reading.{is_headed, numbers_by}
 
@@ -21,9 +20,6 @@ use Rattle.pos_layout.specs.Reading.{is_headed, numbers_by}
 
 pub same_bytes : (xs ys : List ℕ) → xs ≡ ys → bytes_eq xs ys ≡ true
 same_bytes xs ys e = (bytes_eq-Decides xs ys).1 e
-
-pub other_bytes : (xs ys : List ℕ) → (xs ≡ ys → ⊥) → bytes_eq xs ys ≡ false
-other_bytes xs ys apart = not_true (bytes_eq xs ys) (λ e. apart ((bytes_eq-Decides xs ys).0 e))
 
 -- ---- the numbers of a park by its entry
 

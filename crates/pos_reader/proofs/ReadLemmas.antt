@@ -2,7 +2,6 @@
 use Rattle.std.proofs.Common.{◌≡◌, ℕ, ◌+◌, ◌≤◌, List, IsSome, sym, ◌∙◌, subst, arith}
 use Rattle.pos_edge.specs.View.{View}
 use Rattle.pos_edge.specs.Frame.{ChangesOnly, Nothing, NameOf}
-use Rattle.pos_edge.specs.Calls.{IsThere}
 use Rattle.pos_edge.proofs.Frames.{frame_then}
 use Rattle.pos_layout.specs.Forms.{Form}
 use Rattle.pos_reader.specs.Plots.{PlotState, IsOpen, IsPlotFile, OnlyReads}
@@ -20,10 +19,6 @@ reads_then m n a b c p q = record {
 
 pub reads_fewer : (m n : ℕ) (a b : View) → m ≤ n → OnlyReads m a b → OnlyReads n a b
 reads_fewer m n a b few p = record { kept = p.kept; ids = p.ids; reads = let x = p.reads in omega arith }
-
--- a file that was there is there after a read
-pub there_kept : (file n : ℕ) (a b : View) → OnlyReads n a b → IsThere file a → IsThere file b
-there_kept file n a b p there = λ told. subst IsSome (sym (p.ids.name file (λ x. x))) (there (sym p.kept.tells ∙ told))
 
 -- An open plot stays open over calls that leave its FileId and its file's name alone.
 pub IsOpen-kept : (names : List ℕ → Type 0) (ids : ℕ → Type 0) (p : PlotState) (a b : View) → ChangesOnly names ids a b
