@@ -11,6 +11,9 @@ const ID: &str = "00000000000000000000000000000000000000000000000000000000000000
 
 const CHALLENGE: &str = "8eb0000000000000000000000000000000000000000000000000000000000000";
 
+// The challenge with its first bit turned.
+const TURNED: &str = "0eb0000000000000000000000000000000000000000000000000000000000000";
+
 const PROOF: &str =
     "c889aba8b2380f9bd6d06651bbf4114733e6a26aef371424e269758ffbbb91e140c6ace20dc8dc4ba3bf2896879bd50deab97ec39e9ee3be7b5888a2af037cd79a84890bab669199c2904edb16cf976a084b398e912297ce15fb82f89a24fbc0";
 
@@ -71,8 +74,9 @@ fn refusals_name_the_first_failing_test(rt: HostRuntime) -> Result<(), Fail> {
         ("18", ID, long.as_str(), "refused length 144 145\n"),
         ("18", ID, "", "refused length 144 0\n"),
         ("12", CHALLENGE, EXCHANGED, "refused match 6 0\n"),
-        // a challenge whose first bits differ
+        // a challenge whose first bits differ, and one whose first bit is turned
         ("12", ID, PROOF, "refused challenge 0 2283\n"),
+        ("12", TURNED, PROOF, "refused challenge 235 2283\n"),
     ];
     for (k, challenge, proof, wanted) in rows {
         let (status, text) = answer(alloc, &["verify", ID, k, challenge, proof], false)?;
