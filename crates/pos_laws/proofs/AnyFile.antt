@@ -1,14 +1,15 @@
 -- The trees of any plot in range whose numbers rise: they rise by place and stand in plot order.
 use Rattle.std.proofs.Common.{◌≡◌, ℕ, zero, suc, ◌+◌, ◌^◌, ◌<◌, ◌≤◌, [], ◌∷◌, ◌++◌, All, slice_index_or, sym, refl, ap₂, ◌∙◌, arith, length-append}
 use Rattle.std.proofs.lemmas.List.Elements.{All-append}
-use Rattle.pos_points.specs.Points.{greater, lesser}
+use Rattle.pos_lists.specs.Pairs.{greater, lesser}
 use Rattle.pos_order.specs.Order.{lesser_first, plot_order}
-use Rattle.pos_laws.specs.Plot.{PlotLists, count, number_at, limit, tree, NumbersRise, IsInRange}
+use Rattle.pos_lists.specs.PlotLists.{PlotLists, count, number_at, NumbersRise}
+use Rattle.pos_lists.specs.Trees.{limit, tree, IsInRange}
 use Rattle.pos_laws.specs.OrderLaws.{TreesRise}
 use Rattle.pos_laws.specs.PlotLaws.{TreesRiseByPlace, TreesArePlotOrdered, TreesHaveTheirLength, TreeValuesAreBelow}
 use Rattle.pos_laws.proofs.LinePoints.{point_of_a_pair}
 use Rattle.pos_order.proofs.PlotOrderLemmas.{double}
-use Rattle.pos_laws.proofs.NodeParts.{take-half, drop-half}
+use Rattle.pos_order.proofs.NodeParts.{take-half, drop-half}
 use Rattle.pos_order.proofs.OrderLemmas.{under_one_way, lesser_first-kept}
 use Rattle.pos_laws.proofs.Trees.{trees_under, points_rise_as_trees}
 use Rattle.pos_laws.proofs.Relocation.{values_rise}

@@ -2,15 +2,17 @@
 use Rattle.std.proofs.Common.{◌≡◌, ◌≢◌, ℕ, suc, ◌<◌, ◌⊎◌, inl, inr, ⊎_elim, [], ◌∷◌, ◌++◌, slice_index, sym, refl, ap, ap₂, ◌∙◌, subst, arith}
 use Rattle.std.proofs.lemmas.Bool.{cases_order, cases_eq}
 use Rattle.std.proofs.lemmas.Nat.{same_from_place}
-use Rattle.pos_points.specs.Points.{greater, lesser, point_of}
+use Rattle.pos_points.specs.Points.{point_of}
+use Rattle.pos_lists.specs.Pairs.{greater, lesser}
 use Rattle.pos_tuple.specs.Match.{Match}
-use Rattle.pos_laws.specs.Tables.{TableLists, left_of, right_of, tuple, y_of}
-use Rattle.pos_laws.specs.Pruning.{IsUsed}
+use Rattle.pos_laws.specs.Tables.{y_of}
+use Rattle.pos_lists.specs.TableLists.{TableLists, left_of, right_of, tuple}
+use Rattle.pos_lists.specs.Used.{IsUsed}
 use Rattle.pos_laws.specs.RenumberingLaws.{ValuesAreApart, PairsDiffer, PointsDiffer, RenumberedIsApart, LastNumbersDiffer}
 use Rattle.pos_laws.proofs.LinePoints.{point_has_its_pair}
-use Rattle.pos_laws.proofs.Matching.{match_goes_one_way}
+use Rattle.pos_order.proofs.NodeParts.{match_goes_one_way}
 use Rattle.pos_laws.proofs.Described.{pair_matches, tuple-suc}
-use Rattle.pos_laws.proofs.Reached.{used_next, used_is_inside, used_at_top}
+use Rattle.pos_lists.proofs.UsedLemmas.{used_next, used_is_inside, used_at_top}
 
 -- two pairs of different numbers with one point are one pair, in one order or the other
 pub same_point : (a b c d : ℕ) → a ≢ b → c ≢ d → point_of a b ≡ point_of c d → ((a ≡ c) × (b ≡ d)) ⊎ ((a ≡ d) × (b ≡ c))

@@ -2,10 +2,12 @@
 use Rattle.std.proofs.Common.{◌≡◌, ℕ, zero, suc, ◌+◌, ◌-◌, ◌*◌, ◌^◌, ◌<◌, ◌≤◌, ⊎_elim, List, [], ◌++◌, length, slice_index, slice_index_or, sym, refl, ap, ap₂, ◌∙◌, subst, arith, lt-ltb, le-ltb, mod-lt}
 use Rattle.std.proofs.lemmas.Bool.{cases_lt}
 use Rattle.std.proofs.lemmas.List.{length-map, get_or-map, get_or_append_left, get_or-append_right}
-use Rattle.pos_points.specs.Points.{greater, lesser}
+use Rattle.pos_laws.specs.Listing.{listing, pair_in, quality_pairs}
+use Rattle.pos_lists.specs.Pairs.{greater, lesser}
 use Rattle.pos_order.specs.Order.{plot_order}
 use Rattle.pos_order.specs.Quality.{quality_of, pair_quality, quality_index}
-use Rattle.pos_laws.specs.Plot.{PlotLists, number_at, tree, listing, pair_in, quality_pairs, branch}
+use Rattle.pos_lists.specs.PlotLists.{PlotLists, number_at}
+use Rattle.pos_lists.specs.Trees.{tree, branch}
 use Rattle.pos_laws.specs.WalkLaws.{BranchIsOfTheTree, BranchGivesTheQuality, PairsAreBranches}
 use Rattle.pos_order.proofs.PlotOrderLemmas.{double}
 use Rattle.pos_laws.proofs.AnyFile.{trees_have_their_length, tree-suc}

@@ -3,10 +3,11 @@ use Rattle.std.proofs.Common.{◌≡◌, ◌≢◌, ℕ, zero, suc, ◌+◌, ◌
 use Rattle.std.proofs.lemmas.Bool.{cases_order, cases_lt, cases_eq}
 use Rattle.std.proofs.lemmas.List.{length_push, get_or_append_left, get_or_push}
 use Rattle.pos_tuple.specs.declared.entry.Entry.{Entry}
-use Rattle.pos_laws.specs.Tables.{TableLists, entries, tuple, HasNode, left_in, right_in}
+use Rattle.pos_laws.specs.Tables.{HasNode}
+use Rattle.pos_lists.specs.TableLists.{TableLists, entries, tuple, left_in, right_in}
 use Rattle.pos_laws.specs.Making.{AreNodes, IsAbove}
 use Rattle.pos_laws.specs.TableLaws.{NoneIsAbove, EntriesAreAbove, PairsAreAbove}
-use Rattle.pos_laws.proofs.NodeParts.{some_is, node_of_joined, nodes_have_their_length}
+use Rattle.pos_order.proofs.NodeParts.{some_is, node_of_joined, nodes_have_their_length}
 use Rattle.pos_laws.proofs.Made.{no_entry, tuple_has_node, pairs_once}
 
 -- ---- so many different numbers below m are at most m

@@ -2,8 +2,10 @@
 use Rattle.std.proofs.Common.{◌≡◌, ℕ, suc, ◌^◌, ◌<◌, ◌≤◌, List, ◌++◌, length, take, drop, sym, refl, ap, ap₂, ◌∙◌, subst, arith}
 use Rattle.pos_tuple.specs.Match.{Match}
 use Rattle.pos_order.specs.Order.{lesser_first, plot_order}
-use Rattle.pos_laws.specs.Tables.{TableLists, entries, left_of, right_of, tuple, y_of, Describes}
-use Rattle.pos_laws.proofs.NodeParts.{take-half, drop-half, node_parts, some_entry, y_of-node, nodes_have_their_length}
+use Rattle.pos_laws.specs.Tables.{y_of, Describes}
+use Rattle.pos_lists.specs.TableLists.{TableLists, entries, left_of, right_of, tuple}
+use Rattle.pos_order.proofs.NodeParts.{take-half, drop-half, node_parts, some_entry, nodes_have_their_length}
+use Rattle.pos_laws.proofs.NodeParts.{y_of-node}
 
 pub tuple_length : (ts : TableLists) (id : List ℕ) (k n i : ℕ) → Describes ts id k → n ≤ 6 → i < entries ts n →
     length (tuple ts n i) ≡ 2 ^ n

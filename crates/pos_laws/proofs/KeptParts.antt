@@ -2,15 +2,16 @@
 use Rattle.std.proofs.Common.{◌≡◌, ℕ, zero, suc, ◌+◌, ◌-◌, ◌*◌, ◌/◌, ◌%◌, ◌^◌, ◌<◌, inl, inr, ⊎_elim, List, take, drop, sym, refl, ap, ◌∙◌, subst, arith, take-take, drop-drop, take_all, add-mul, mul-add, one-mul, ◌≢◌}
 use Rattle.std.proofs.lemmas.Bool.{cases_eq}
 use Rattle.std.proofs.lemmas.List.{drop-take}
-use Rattle.pos_laws.specs.Tables.{TableLists, entries, left_of, right_of, tuple, HasNode, Describes}
+use Rattle.pos_laws.specs.Tables.{HasNode, Describes}
+use Rattle.pos_lists.specs.TableLists.{TableLists, entries, left_of, right_of, tuple}
 use Rattle.pos_laws.specs.Kept.{IsPart, IsHalved}
-use Rattle.pos_laws.specs.Pruning.{IsReached}
+use Rattle.pos_lists.specs.Used.{IsReached}
 use Rattle.pos_laws.specs.PruningLaws.{UsedIsKept}
 use Rattle.pos_laws.specs.PlotLaws.{KeptIsHalved}
 use Rattle.pos_order.proofs.PlotOrderLemmas.{double}
-use Rattle.pos_laws.proofs.NodeParts.{nodes_have_their_length}
+use Rattle.pos_order.proofs.NodeParts.{nodes_have_their_length}
 use Rattle.pos_laws.proofs.Described.{first_half, second_half}
-use Rattle.pos_laws.proofs.Reached.{inside_by_distance}
+use Rattle.pos_lists.proofs.UsedLemmas.{inside_by_distance}
 
 -- ---- a half of a part is a part
 

@@ -1,15 +1,13 @@
 pub mod LinePoints
 pub mod TupleOrder
-pub mod Matching
-pub mod NodeParts
+mod NodeParts
 pub mod Trees
 pub mod Turnings
 pub mod Made
 pub mod MadeLevels
 pub mod Counting
-pub mod Reached
 pub mod Ranks
-pub mod Described
+mod Described
 pub mod KeptParts
 pub mod Apart
 pub mod Relocation
@@ -21,8 +19,13 @@ pub mod Branches
 pub mod Qualities
 pub mod Spans
 pub mod WalkedTrees
-pub mod Sorting
+mod Sorting
 pub mod TablesThere
 pub mod PlotThere
 pub mod NodeSizes
 pub mod ListThere
+pub mod Gathered
+pub mod PassLemmas
+pub mod Sound
+pub mod Full
+pub mod Readings

@@ -1,7 +1,8 @@
 -- What trees need of line points, from the laws of line points.
 use Rattle.std.proofs.Common.{◌≡◌, ◌≢◌, ℕ, ◌<◌, inl, inr, ⊎_elim, ap, ap₂, arith}
 use Rattle.std.proofs.lemmas.Bool.{cases_order}
-use Rattle.pos_points.specs.Points.{line_point, greater, lesser, point_of}
+use Rattle.pos_points.specs.Points.{line_point, point_of}
+use Rattle.pos_lists.specs.Pairs.{greater, lesser}
 use Rattle.pos_points.proofs.PointLemmas.{pair_at-is, line_point-pair_at, line_point-rises, line_point-lesser, point_of-pair, point_of-symm}
 use Rattle.pos_laws.specs.OrderLaws.{PointsRise}
 

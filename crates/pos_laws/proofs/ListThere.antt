@@ -3,10 +3,9 @@ use Rattle.std.proofs.Common.{◌≡◌, ℕ, zero, suc, ◌+◌, ◌^◌, ◌<�
 use Rattle.pos_tuple.specs.Proof.{Proof}
 use Rattle.pos_order.specs.Order.{Turning}
 use Rattle.pos_laws.specs.Tables.{HasNode}
-use Rattle.pos_laws.specs.Plot.{listing}
-use Rattle.pos_laws.specs.Listing.{AreTurned}
+use Rattle.pos_laws.specs.Listing.{listing, AreTurned}
 use Rattle.pos_laws.specs.ThereLaws.{ListIsThere, SmallSizesAreNeverAbove}
-use Rattle.pos_laws.proofs.NodeParts.{node_parts, some_entry}
+use Rattle.pos_order.proofs.NodeParts.{node_parts, some_entry}
 use Rattle.pos_laws.proofs.NodeSizes.{nodes_have_their_bits}
 use Rattle.pos_laws.proofs.Listed.{listing_turns, turned_listing_is_the_list}
 

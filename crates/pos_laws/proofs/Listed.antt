@@ -8,14 +8,16 @@ use Rattle.pos_tuple.specs.Proof.{Proof, f7, challenge_value}
 use Rattle.pos_order.specs.Order.{Below, plot_order, Turning}
 use Rattle.pos_laws.specs.Tables.{HasNode}
 use Rattle.pos_laws.specs.Kept.{IsKept, IsHalved}
-use Rattle.pos_laws.specs.Plot.{PlotLists, numbers, count, tree, f7_in, place_in, asked, listing}
-use Rattle.pos_laws.specs.PlotOf.{IsPlotOf}
-use Rattle.pos_laws.specs.Listing.{AreTurned}
+use Rattle.pos_lists.specs.PlotLists.{PlotLists, numbers, count, f7_in, place_in}
+use Rattle.pos_lists.specs.Trees.{tree}
+use Rattle.pos_laws.specs.PlotOf.{PlotOf}
+use Rattle.pos_laws.specs.Listing.{asked, listing, AreTurned}
 use Rattle.pos_laws.specs.ListingLaws.{ListingTurns, TurnedListingIsTheList, OneList}
-use Rattle.pos_laws.proofs.NodeParts.{nodes_have_their_length}
+use Rattle.pos_order.proofs.NodeParts.{nodes_have_their_length}
 use Rattle.pos_order.proofs.OrderLemmas.{under_one_way, under_from_below}
 use Rattle.pos_order.proofs.PlotOrderLemmas.{length-plot_order, plot_order-turning}
-use Rattle.pos_laws.proofs.Turnings.{plot_order_is_exact, tuples_turn_their_plot_order, one_turning}
+use Rattle.pos_order.proofs.Turnings.{plot_order_is_exact, one_turning}
+use Rattle.pos_laws.proofs.Turnings.{tuples_turn_their_plot_order}
 use Rattle.pos_laws.proofs.KeptParts.{kept_is_halved}
 use Rattle.pos_laws.proofs.OnePlotOnly.{f7_has_node}
 use Rattle.pos_laws.proofs.Sorting.{filter_keeps}
@@ -25,29 +27,29 @@ use Rattle.pos_laws.proofs.SameLists.{same_rising, contains_at, at_contained}
 
 pub length-listing : (p : PlotLists) (c : List ℕ) → length (listing p c) ≡ length (asked p c)
 unfolding listing
-length-listing p c = length-map (asked p c) (λ s. tree p 6 (place_in p s))
+length-listing p c = length-map (asked p c) (λ s. tree p 6 (place_in p.k s))
 
 pub at-listing : (p : PlotLists) (c : List ℕ) (i : ℕ) (d : List ℕ) → i < length (asked p c) →
-    slice_index_or (listing p c) i d ≡ tree p 6 (place_in p (slice_index (asked p c) i))
+    slice_index_or (listing p c) i d ≡ tree p 6 (place_in p.k (slice_index (asked p c) i))
 unfolding listing
-at-listing p c i d l = get_or-map (λ s. tree p 6 (place_in p s)) (asked p c) i 0 d l
+at-listing p c i d l = get_or-map (λ s. tree p 6 (place_in p.k s)) (asked p c) i 0 d l
 
 pub asked_in_table : (p : PlotLists) (c : List ℕ) (i : ℕ) → i < length (asked p c) → Contains (numbers p 7) (slice_index (asked p c) i)
 unfolding asked
 asked_in_table p c i l =
-    All-filter (λ s. f7_in p s == challenge_value p.k c) (Contains (numbers p 7)) (numbers p 7) (All-contains_itself (numbers p 7)) i 0 l
+    All-filter (λ s. f7_in p.k s == challenge_value p.k c) (Contains (numbers p 7)) (numbers p 7) (All-contains_itself (numbers p 7)) i 0 l
 
-pub asked_answers : (p : PlotLists) (c : List ℕ) (i : ℕ) → i < length (asked p c) → f7_in p (slice_index (asked p c) i) ≡ challenge_value p.k c
+pub asked_answers : (p : PlotLists) (c : List ℕ) (i : ℕ) → i < length (asked p c) → f7_in p.k (slice_index (asked p c) i) ≡ challenge_value p.k c
 unfolding asked
-asked_answers p c i l = eqb-true _ _ (filter_passes (λ s. f7_in p s == challenge_value p.k c) (numbers p 7) i 0 l)
+asked_answers p c i l = eqb-true _ _ (filter_passes (λ s. f7_in p.k s == challenge_value p.k c) (numbers p 7) i 0 l)
 
 pub asked_rise : (p : PlotLists) (c : List ℕ) → AllPairs ◌<◌ (numbers p 7) → AllPairs ◌<◌ (asked p c)
 unfolding asked
-asked_rise p c rise = AllPairs-filter ◌<◌ (λ s. f7_in p s == challenge_value p.k c) (numbers p 7) rise
+asked_rise p c rise = AllPairs-filter ◌<◌ (λ s. f7_in p.k s == challenge_value p.k c) (numbers p 7) rise
 
-asked_has : (p : PlotLists) (c : List ℕ) (s : ℕ) → Contains (numbers p 7) s → f7_in p s ≡ challenge_value p.k c → Contains (asked p c) s
+asked_has : (p : PlotLists) (c : List ℕ) (s : ℕ) → Contains (numbers p 7) s → f7_in p.k s ≡ challenge_value p.k c → Contains (asked p c) s
 unfolding asked
-asked_has p c s h e = filter_keeps (λ s. f7_in p s == challenge_value p.k c) (numbers p 7) s (eq-eqb _ _ e) h
+asked_has p c s h e = filter_keeps (λ s. f7_in p.k s == challenge_value p.k c) (numbers p 7) s (eq-eqb _ _ e) h
 
 -- ---- what stands at a place of the listing
 
@@ -60,13 +62,13 @@ record ListedAt (p : PlotLists) (id : List ℕ) (k : ℕ) (c : List ℕ) (i : �
   listed : slice_index_or (listing p c) i [] ≡ tree p 6 place
   number : slice_index (asked p c) i ≡ challenge_value k c * 2 ^ (k + 1) + place
 
-split_number : (p : PlotLists) (k v j s : ℕ) → p.k ≡ k → j < 2 ^ (k + 1) → s ≡ v * 2 ^ (k + 1) + j → (f7_in p s ≡ v) × (place_in p s ≡ j)
+split_number : (p : PlotLists) (k v j s : ℕ) → p.k ≡ k → j < 2 ^ (k + 1) → s ≡ v * 2 ^ (k + 1) + j → (f7_in p.k s ≡ v) × (place_in p.k s ≡ j)
 split_number p k v j s size l e = (
   ap₂ (λ a b. a / 2 ^ (b + 1)) e size ∙ div-mul-add v (2 ^ (k + 1)) j l,
   ap₂ (λ a b. a % 2 ^ (b + 1)) e size ∙ mod-mul-add v (2 ^ (k + 1)) j l,
 )
 
-listed_at : (p : PlotLists) (id : List ℕ) (k : ℕ) (c : List ℕ) → IsPlotOf p id k → count p 6 ≤ 2 ^ (k + 1) →
+listed_at : (p : PlotLists) (id : List ℕ) (k : ℕ) (c : List ℕ) → PlotOf p id k → count p 6 ≤ 2 ^ (k + 1) →
     (i : ℕ) → i < length (listing p c) → ListedAt p id k c i
 listed_at p id k c h few i l =
     let g : i < length (asked p c) = omega (arith, length-listing p c) in
@@ -115,7 +117,7 @@ listing_turns p id k c i h few l =
 
 -- ---- the list
 
-module _ (p : PlotLists) (id : List ℕ) (k : ℕ) (c : List ℕ) (out : List (List ℕ)) (h : IsPlotOf p id k) (few : count p 6 ≤ 2 ^ (k + 1)) (t : AreTurned p c out) where
+module _ (p : PlotLists) (id : List ℕ) (k : ℕ) (c : List ℕ) (out : List (List ℕ)) (h : PlotOf p id k) (few : count p 6 ≤ 2 ^ (k + 1)) (t : AreTurned p c out) where
   out_proof : (i : ℕ) → i < length out → Proof id k c (slice_index_or out i [])
   out_proof i l =
       subst (λ a. Proof a k c (slice_index_or out i [])) h.same_id
@@ -148,7 +150,7 @@ module _ (p : PlotLists) (id : List ℕ) (k : ℕ) (c : List ℕ) (out : List (L
       (h.trees_rise 5 a.place b.place (omega arith) less b.inside))))
 
   -- a proof is listed, and so turned
-  proof_number : (xs : List ℕ) → Proof id k c xs → (s : ℕ) × Contains (asked p c) s × (tree p 6 (place_in p s) ≡ plot_order 6 xs)
+  proof_number : (xs : List ℕ) → Proof id k c xs → (s : ℕ) × Contains (asked p c) s × (tree p 6 (place_in p.k s) ≡ plot_order 6 xs)
   proof_number xs q =
       let node = sixty_four id k c xs q in
       let i = h.all 5 xs (omega arith) (node_is_kept id k xs node) in
@@ -171,7 +173,7 @@ module _ (p : PlotLists) (id : List ℕ) (k : ℕ) (c : List ℕ) (out : List (L
       let l : j.0 < length out = omega (arith, j.1, t.as_long, length-listing p c) in
       let node = sixty_four id k c xs q in
       let listed : slice_index_or (listing p c) j.0 [] ≡ plot_order 6 xs =
-      at-listing p c j.0 [] j.1 ∙ ap (λ n. tree p 6 (place_in p n)) j.2 ∙ s.2 in
+      at-listing p c j.0 [] j.1 ∙ ap (λ n. tree p 6 (place_in p.k n)) j.2 ∙ s.2 in
       let same : slice_index_or out j.0 [] ≡ xs =
       one_turning id k 6 _ xs (plot_order 6 xs)
       (subst (Turning 6 (slice_index_or out j.0 [])) listed (t.turned j.0 l))

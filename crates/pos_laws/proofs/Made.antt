@@ -5,11 +5,12 @@ use Rattle.std.proofs.lemmas.List.{length-map, get_or-map, get_or_default}
 use Rattle.pos_tuple.specs.declared.entry.Entry.{Entry}
 use Rattle.pos_tuple.specs.Match.{Match}
 use Rattle.pos_tuple.specs.Node.{node, first_entry}
-use Rattle.pos_laws.specs.Tables.{TableLists, pairs_of, entries, left_of, right_of, tuple, HasNode, left_in, right_in}
+use Rattle.pos_laws.specs.Tables.{HasNode}
+use Rattle.pos_lists.specs.TableLists.{TableLists, pairs_of, entries, left_of, right_of, tuple, left_in, right_in}
 use Rattle.pos_laws.specs.Making.{AreNodes, AreMatching, IsNextTable}
 use Rattle.pos_laws.specs.TableLaws.{FirstTableIsRight, NextTableIsRight}
-use Rattle.pos_laws.proofs.NodeParts.{node_of_value, value_of_node, node_of_joined, node_parts, some_entry, some_is, nodes_have_their_length}
-use Rattle.pos_laws.proofs.Turnings.{same_parts}
+use Rattle.pos_order.proofs.NodeParts.{node_of_value, value_of_node, node_of_joined, node_parts, some_entry, some_is, nodes_have_their_length}
+use Rattle.pos_order.proofs.Turnings.{same_parts}
 
 -- what holds of no two places holds of none at all but a place and itself
 pub apart : {X : Type 0} (xs : List X) (d : X) → AllPairs ◌≢◌ xs → (i j : ℕ) → i < length xs → j < length xs →

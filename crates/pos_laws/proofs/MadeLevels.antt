@@ -4,10 +4,11 @@ use Rattle.std.proofs.lemmas.Bool.{cases_lt}
 use Rattle.std.proofs.lemmas.List.{length-map, get_or-map, get_or_append_left, get_or_push}
 use Rattle.pos_tuple.specs.declared.entry.Entry.{Entry}
 use Rattle.pos_tuple.specs.Node.{node}
-use Rattle.pos_laws.specs.Tables.{TableLists, pairs_of, entries, left_of, right_of, tuple, PairsInside, left_in, right_in}
-use Rattle.pos_laws.specs.Making.{AreNodes, NeverFalls, IsNextTable, with_level}
+use Rattle.pos_lists.specs.TableLists.{TableLists, pairs_of, entries, left_of, right_of, tuple, PairsInside, left_in, right_in, with_level}
+use Rattle.pos_laws.specs.Making.{AreNodes, NeverFalls, IsNextTable}
 use Rattle.pos_laws.specs.TableLaws.{FirstTableIsMade, NextTableIsMade, MadeTablesDescribe}
-use Rattle.pos_laws.proofs.NodeParts.{some_is, y_of-node}
+use Rattle.pos_order.proofs.NodeParts.{some_is}
+use Rattle.pos_laws.proofs.NodeParts.{y_of-node}
 use Rattle.pos_laws.proofs.Made.{no_entry, first_table_is_right, next_table_is_right}
 
 -- the two tables are the same at the levels 0 to n

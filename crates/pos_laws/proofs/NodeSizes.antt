@@ -9,7 +9,8 @@ use Rattle.pos_bits.specs.Blocks.{length-bits}
 use Rattle.pos_bits.proofs.BytesLemmas.{length-bits_of}
 use Rattle.pos_tuple.proofs.StreamLemmas.{f1-lt}
 use Rattle.pos_laws.specs.NodeLaws.{NodeValuesAreBelow, NodesHaveTheirBits, NodesHaveTheirMetadata}
-use Rattle.pos_laws.proofs.NodeParts.{value_of_node, node_of_value, node_parts, some_entry, some_is, next_y_below}
+use Rattle.pos_order.proofs.NodeParts.{value_of_node, node_of_value, node_parts, some_entry, some_is}
+use Rattle.pos_laws.proofs.NodeParts.{next_y_below}
 
 -- ---- values
 

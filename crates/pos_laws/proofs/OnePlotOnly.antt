@@ -2,23 +2,25 @@
 use Rattle.std.proofs.Common.{◌≡◌, ℕ, zero, suc, ◌+◌, ◌-◌, ◌*◌, ◌^◌, ◌<◌, ◌≤◌, ◌⊎◌, inl, inr, ⊎_elim, List, [], ◌++◌, length, take, drop, slice_index, AllPairs, Contains, Option, Some, None, option_map, IsSome, sym, refl, ap, ap₂, ◌∙◌, subst, arith, ext_get_or}
 use Rattle.std.proofs.lemmas.Bool.{cases_order, cases_lt}
 use Rattle.std.proofs.lemmas.List.{get_or_default}
-use Rattle.pos_points.specs.Points.{line_point, greater, lesser}
+use Rattle.pos_points.specs.Points.{line_point}
+use Rattle.pos_lists.specs.Pairs.{greater, lesser}
 use Rattle.pos_tuple.specs.declared.entry.Entry.{Entry}
 use Rattle.pos_tuple.specs.Node.{node}
 use Rattle.pos_tuple.specs.Proof.{f7, f7_of}
 use Rattle.pos_order.specs.Order.{Below, lesser_first, plot_order}
 use Rattle.pos_laws.specs.Tables.{HasNode}
 use Rattle.pos_laws.specs.Kept.{IsKept, IsHalved}
-use Rattle.pos_laws.specs.Plot.{PlotLists, numbers, count, number_at, limit, tree, IsInRange}
-use Rattle.pos_laws.specs.PlotOf.{IsPlotOf}
+use Rattle.pos_lists.specs.PlotLists.{PlotLists, numbers, count, number_at}
+use Rattle.pos_lists.specs.Trees.{limit, tree, IsInRange}
+use Rattle.pos_laws.specs.PlotOf.{PlotOf}
 use Rattle.pos_laws.specs.OrderLaws.{TreesRise}
 use Rattle.pos_laws.specs.PlotLaws.{NoneIsDead, OnePlot, PlotNumbersRise}
 use Rattle.pos_laws.proofs.LinePoints.{point_of_a_pair}
-use Rattle.pos_laws.proofs.NodeParts.{node_parts, some_entry, some_is, nodes_have_their_length}
+use Rattle.pos_order.proofs.NodeParts.{node_parts, some_entry, some_is, nodes_have_their_length}
 use Rattle.pos_order.proofs.OrderLemmas.{Under, under_one_way, under_from_below, lesser_first_cases}
 use Rattle.pos_laws.proofs.Trees.{trees_apart, points_rise_as_trees}
 use Rattle.pos_order.proofs.PlotOrderLemmas.{length_first_half, length_second_half, length-plot_order}
-use Rattle.pos_laws.proofs.Turnings.{same_parts, plot_order_is_exact}
+use Rattle.pos_order.proofs.Turnings.{same_parts, plot_order_is_exact}
 use Rattle.pos_laws.proofs.KeptParts.{kept_is_halved}
 use Rattle.pos_laws.proofs.Relocation.{values_rise}
 use Rattle.pos_laws.proofs.AnyFile.{trees_have_their_length, tree-suc, limit-suc, lesser_below_greater}
@@ -64,13 +66,13 @@ f7_has_node id k xs v e = from (node id k 6 xs) e
 
 -- ---- the trees of a plot rise
 
-pub plot_trees_rise : (p : PlotLists) (id : List ℕ) (k n : ℕ) → IsPlotOf p id k → n ≤ 6 → TreesRise (tree p n) (limit p n)
+pub plot_trees_rise : (p : PlotLists) (id : List ℕ) (k n : ℕ) → PlotOf p id k → n ≤ 6 → TreesRise (tree p n) (limit p n)
 unfolding limit
 plot_trees_rise p id k zero h l = values_rise p (2 ^ p.k)
 plot_trees_rise p id k (suc n) h l = λ i j. h.trees_rise n i j l
 
 -- a lesser number has the lesser tree
-numbers_to_trees : (p : PlotLists) (id : List ℕ) (k n a b : ℕ) → IsPlotOf p id k → IsInRange p → n < 6 → b < count p (suc n) →
+numbers_to_trees : (p : PlotLists) (id : List ℕ) (k n a b : ℕ) → PlotOf p id k → IsInRange p → n < 6 → b < count p (suc n) →
     number_at p (suc n) a < number_at p (suc n) b → Below (tree p (suc n) a) (tree p (suc n) b)
 unfolding tree
 numbers_to_trees p id k n a b h range l g o =
@@ -80,7 +82,7 @@ same_number_same_tree : (p : PlotLists) (n a b : ℕ) → number_at p (suc n) a 
 unfolding tree
 same_number_same_tree p n a b e = ap (λ s. tree p n (lesser s) ++ tree p n (greater s)) e
 
-table_rises : (p : PlotLists) (id : List ℕ) (k n i j : ℕ) → IsPlotOf p id k → IsInRange p → n < 6 → i < j → j < count p (suc n) →
+table_rises : (p : PlotLists) (id : List ℕ) (k n i j : ℕ) → PlotOf p id k → IsInRange p → n < 6 → i < j → j < count p (suc n) →
     number_at p (suc n) i < number_at p (suc n) j
 table_rises p id k n i j h range l o g =
     let u = under_from_below _ _ (h.trees_rise n i j l o g) in
@@ -108,7 +110,7 @@ plot_numbers_rise p id k h range n l =
 
 -- ---- no number is dead
 
-named_by : (p : PlotLists) (id : List ℕ) (k n i j : ℕ) (ys : List ℕ) → IsPlotOf p id k → IsInRange p → n < 5 →
+named_by : (p : PlotLists) (id : List ℕ) (k n i j : ℕ) (ys : List ℕ) → PlotOf p id k → IsInRange p → n < 5 →
     i < count p (suc n) → j < count p (suc (suc n)) → HasNode id k (suc (suc n)) ys →
     tree p (suc (suc n)) j ≡ plot_order (suc (suc n)) ys →
     (tree p (suc n) i ≡ plot_order (suc n) (take (2 ^ suc n) ys)) ⊎ (tree p (suc n) i ≡ plot_order (suc n) (drop (2 ^ suc n) ys)) →
@@ -178,7 +180,7 @@ same_number : (s t : ℕ) → lesser s ≡ lesser t → greater s ≡ greater t 
 same_number s t e f = sym (point_of_a_pair s).1 ∙ ap₂ line_point f e ∙ (point_of_a_pair t).1
 
 -- a number of a table of one plot is in the other
-carried : (p q : PlotLists) (id : List ℕ) (k n : ℕ) → IsPlotOf p id k → IsInRange p → IsPlotOf q id k → IsInRange q →
+carried : (p q : PlotLists) (id : List ℕ) (k n : ℕ) → PlotOf p id k → IsInRange p → PlotOf q id k → IsInRange q →
     n < 6 → Agree p q n → (s : ℕ) → Contains (numbers p (suc n)) s → Contains (numbers q (suc n)) s
 carried p q id k n hp rp hq rq l a s c =
     let i = at_contained (numbers p (suc n)) s 0 c in
@@ -203,7 +205,7 @@ carried p q id k n hp rp hq rq l a s c =
     (sym (trees_apart (tree p n) (limit p n) rise _ _ gs gt parts.1)) in
     subst (Contains (numbers q (suc n))) e (contains_at (numbers q (suc n)) j.0 0 j.1)
 
-last_carried : (p q : PlotLists) (id : List ℕ) (k : ℕ) → IsPlotOf p id k → IsPlotOf q id k → Agree p q 6 →
+last_carried : (p q : PlotLists) (id : List ℕ) (k : ℕ) → PlotOf p id k → PlotOf q id k → Agree p q 6 →
     (s : ℕ) → Contains (numbers p 7) s → Contains (numbers q 7) s
 last_carried p q id k hp hq a s c =
     let i = hp.each_number s c in
@@ -224,7 +226,7 @@ numbers_one_way x y l g = absurd (omega arith)
 agree_back : (p q : PlotLists) (n : ℕ) → Agree p q n → Agree q p n
 agree_back p q n a m l = sym (a m l)
 
-agree_at : (p q : PlotLists) (id : List ℕ) (k : ℕ) → IsPlotOf p id k → IsInRange p → IsPlotOf q id k → IsInRange q →
+agree_at : (p q : PlotLists) (id : List ℕ) (k : ℕ) → PlotOf p id k → IsInRange p → PlotOf q id k → IsInRange q →
     (n : ℕ) → n ≤ 6 → Agree p q n
 agree_at p q id k hp rp hq rq zero l m o = absurd (omega arith)
 agree_at p q id k hp rp hq rq (suc n) l m o =

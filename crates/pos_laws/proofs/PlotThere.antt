@@ -3,16 +3,18 @@ use Rattle.std.proofs.Common.{◌≡◌, ◌≢◌, ℕ, zero, suc, ◌+◌, ◌
 use Rattle.std.proofs.lemmas.Bool.{cases_lt, cases_eq, and_parts, and_from, or_cases, or_left, or_right}
 use Rattle.std.proofs.lemmas.List.{length-map, get_or_append_left, get_or_push, length_push}
 use Rattle.std.proofs.lemmas.List.Kept.{AllPairs-filter}
-use Rattle.pos_laws.specs.Tables.{TableLists, entries, left_of, right_of, PairsInside, Describes}
+use Rattle.pos_laws.specs.Tables.{Describes}
+use Rattle.pos_lists.specs.TableLists.{TableLists, entries, left_of, right_of, PairsInside}
 use Rattle.pos_laws.specs.Making.{IsAbove}
-use Rattle.pos_laws.specs.Pruning.{IsReached, IsUsed, MarksUsed}
-use Rattle.pos_laws.specs.Plot.{PlotLists, numbers, count}
-use Rattle.pos_laws.specs.Renumbering.{point_at, IsRenumbered, IsLastTable, IsRelocated, IsNumbered, new_place, firsts}
-use Rattle.pos_laws.specs.RenumberingLaws.{AreApart}
+use Rattle.pos_lists.specs.Used.{IsReached, IsUsed, MarksUsed}
+use Rattle.pos_lists.specs.PlotLists.{PlotLists, numbers, count}
+use Rattle.pos_laws.specs.Renumbering.{point_at, IsRenumbered, IsLastTable, IsRelocated, IsNumbered, firsts, IsOneToOne}
+use Rattle.pos_lists.specs.Rank.{new_place}
 use Rattle.pos_laws.specs.ThereLaws.{RenumberingIsThere, PlotIsThere}
 use Rattle.pos_laws.proofs.Counting.{tuples_are_above}
-use Rattle.pos_laws.proofs.Reached.{inside_by_distance, used_is_inside, used_at_top}
-use Rattle.pos_laws.proofs.Ranks.{numbered_is_renumbered, length-firsts, one_place}
+use Rattle.pos_lists.proofs.UsedLemmas.{inside_by_distance, used_is_inside, used_at_top}
+use Rattle.pos_laws.proofs.Ranks.{numbered_is_renumbered, length-firsts}
+use Rattle.pos_lists.proofs.RankLemmas.{one_place}
 use Rattle.pos_laws.proofs.Apart.{values_are_apart, points_differ, renumbered_is_apart, last_numbers_differ}
 use Rattle.pos_laws.proofs.Relocation.{relocated_is_the_plot, relocated_is_in_range}
 use Rattle.pos_laws.proofs.SameLists.{contains_at, at_contained}
@@ -99,7 +101,7 @@ place_found (q ∷ qs) i (suc s) l e =
 
 -- ---- one level
 
-module _ (ts : TableLists) (id : List ℕ) (k n : ℕ) (old : ℕ → ℕ) (t : Describes ts id k) (l : n < 6) (apart : AreApart ts n old) where
+module _ (ts : TableLists) (id : List ℕ) (k n : ℕ) (old : ℕ → ℕ) (t : Describes ts id k) (l : n < 6) (apart : IsOneToOne ts n old) where
   used_places : List ℕ
   used_places = filter (used_test ts (suc n)) (listed_by (λ i. i) (entries ts (suc n)))
 
@@ -226,7 +228,7 @@ record Levels (ts : TableLists) (m : ℕ) : Type 0 where
   points_length : length points ≡ m
   values : (i : ℕ) → place_at places 0 i ≡ slice_index ts.values i
   steps : (n : ℕ) → n < m → IsRenumbered ts n (place_at places n) (place_at places (suc n)) (slice_index_or points n [])
-  apart : AreApart ts m (place_at places m)
+  apart : IsOneToOne ts m (place_at places m)
   few : (n : ℕ) → n < m → length (slice_index_or points n []) ≤ entries ts (suc n)
 
 levels_zero : (ts : TableLists) (id : List ℕ) (k : ℕ) → Describes ts id k → Levels ts 0
@@ -274,7 +276,7 @@ levels_suc ts id k m t l v =
           (subst (λ f. IsRenumbered ts m (place_at v.places m) f (slice_index_or (v.points ++ points ∷ []) m [])) (sym place_new)
           (subst (IsRenumbered ts m (place_at v.places m) new) (sym points_new) r))))
           (cases_lt n m);
-      apart = subst (AreApart ts (suc m)) (sym place_new) (renumbered_is_apart ts id k m old new points t l v.apart r);
+      apart = subst (IsOneToOne ts (suc m)) (sym place_new) (renumbered_is_apart ts id k m old new points t l v.apart r);
       few = λ n g.
           ⊎_elim
           (λ (h : n < m). subst (λ q. length q ≤ entries ts (suc n)) (sym (points_old n h)) (v.few n h))
@@ -297,7 +299,7 @@ last_number_of ts k new i = slice_index ts.last i / 64 * 2 ^ (k + 1) + new i
 lasts_of : TableLists → ℕ → (ℕ → ℕ) → List ℕ
 lasts_of ts k new = sort_by (λ s. s) (listed_by (last_number_of ts k new) (entries ts 6))
 
-last_table : (ts : TableLists) (k : ℕ) (new : ℕ → ℕ) → AreApart ts 6 new → ((i : ℕ) → i < entries ts 6 → new i < 2 ^ (k + 1)) →
+last_table : (ts : TableLists) (k : ℕ) (new : ℕ → ℕ) → IsOneToOne ts 6 new → ((i : ℕ) → i < entries ts 6 → new i < 2 ^ (k + 1)) →
     IsLastTable ts k new (lasts_of ts k new)
 unfolding lasts_of last_number_of
 last_table ts k new apart below =

@@ -3,22 +3,25 @@ use Rattle.std.proofs.Common.{◌≡◌, ◌≢◌, ℕ, zero, suc, ◌+◌, ◌
 use Rattle.std.proofs.lemmas.Bool.{cases_order}
 use Rattle.std.proofs.lemmas.List.{get_or_default}
 use Rattle.std.proofs.lemmas.Nat.{div-mul-add, mod-mul-add, shr_below}
-use Rattle.pos_points.specs.Points.{greater, point_of}
+use Rattle.pos_points.specs.Points.{point_of}
+use Rattle.pos_lists.specs.Pairs.{greater}
 use Rattle.pos_tuple.specs.Proof.{f7, f7_of}
 use Rattle.pos_order.specs.Order.{lesser_first, plot_order}
-use Rattle.pos_laws.specs.Tables.{TableLists, entries, tuple, Describes}
-use Rattle.pos_laws.specs.Pruning.{IsUsed}
-use Rattle.pos_laws.specs.Plot.{PlotLists, numbers, count, number_at, limit, tree, f7_in, place_in}
+use Rattle.pos_laws.specs.Tables.{Describes}
+use Rattle.pos_lists.specs.TableLists.{TableLists, entries, tuple}
+use Rattle.pos_lists.specs.Used.{IsUsed}
+use Rattle.pos_lists.specs.PlotLists.{PlotLists, numbers, count, number_at, f7_in, place_in}
+use Rattle.pos_lists.specs.Trees.{limit, tree}
 use Rattle.pos_laws.specs.PlotOf.{IsLastNumber}
 use Rattle.pos_laws.specs.OrderLaws.{TreesRise, joined_tree}
-use Rattle.pos_laws.specs.Renumbering.{point_at, IsRelocated}
-use Rattle.pos_laws.specs.RenumberingLaws.{AreApart}
+use Rattle.pos_laws.specs.Renumbering.{point_at, IsRelocated, IsOneToOne}
 use Rattle.pos_laws.specs.PlotLaws.{RelocatedIsThePlot, RelocatedIsInRange}
 use Rattle.pos_laws.proofs.LinePoints.{point_has_its_pair}
 use Rattle.pos_order.proofs.OrderLemmas.{Under, below_from_under}
-use Rattle.pos_laws.proofs.NodeParts.{some_entry, value_of_node, y_of-node, node_parts, next_y_below}
+use Rattle.pos_order.proofs.NodeParts.{some_entry, value_of_node, node_parts}
+use Rattle.pos_laws.proofs.NodeParts.{y_of-node, next_y_below}
 use Rattle.pos_laws.proofs.Trees.{points_rise_as_trees, points_are_plot_ordered}
-use Rattle.pos_laws.proofs.Reached.{used_is_inside, used_at_top, inside_at_top}
+use Rattle.pos_lists.proofs.UsedLemmas.{used_is_inside, used_at_top, inside_at_top}
 use Rattle.pos_laws.proofs.Described.{plot_order-tuple}
 use Rattle.pos_laws.proofs.KeptParts.{used_is_kept}
 use Rattle.pos_laws.proofs.Apart.{left_used, right_used, values_are_apart, pairs_differ, renumbered_is_apart}
@@ -43,7 +46,7 @@ record Level (ts : TableLists) (p : PlotLists) (place : ℕ → ℕ → ℕ) (n 
   rise : TreesRise (tree p n) (limit p n)
   below : (i : ℕ) → IsUsed ts n i → place n i < limit p n
   trees : (i : ℕ) → IsUsed ts n i → tree p n (place n i) ≡ plot_order n (tuple ts n i)
-  apart : AreApart ts n (place n)
+  apart : IsOneToOne ts n (place n)
 
 module _ (ts : TableLists) (id : List ℕ) (k : ℕ) (p : PlotLists) (place : ℕ → ℕ → ℕ) (t : Describes ts id k) (r : IsRelocated ts p place) where
   level_zero : p.k ≡ k → Level ts p place 0
@@ -165,12 +168,12 @@ relocated_is_in_range ts id k p place t r size c = record {
   points = λ n i l. greater_in_range ts id k p place t r n l (level_at ts id k p place t r size n (omega arith)) i;
   answers = λ i l.
       let q = last_of i l in
-      subst (λ s. f7_in p s < 2 ^ p.k) (sym q.2)
+      subst (λ s. f7_in p.k s < 2 ^ p.k) (sym q.2)
       (rw (div-mul-add (slice_index ts.last q.0 / 64) (2 ^ (p.k + 1)) (place 6 q.0) q.3)
       (subst (λ b. slice_index ts.last q.0 / 64 < 2 ^ b) (sym size) (last_below ts id k p place t r q.0 q.1)));
   places = λ i l.
       let q = last_of i l in
-      subst (λ s. place_in p s < count p 6) (sym q.2)
+      subst (λ s. place_in p.k s < count p 6) (sym q.2)
       (rw (mod-mul-add (slice_index ts.last q.0 / 64) (2 ^ (p.k + 1)) (place 6 q.0) q.3) (top.below q.0 (used_at_top ts q.0 q.1)));
 }
   where

@@ -4,8 +4,9 @@ use Rattle.std.proofs.lemmas.Bool.{cases_lt, cases_order}
 use Rattle.std.proofs.lemmas.Nat.{le-div, div-add-mod', pow_pos}
 use Rattle.pos_tuple.specs.Proof.{challenge_value}
 use Rattle.pos_order.specs.Quality.{quality_index}
-use Rattle.pos_laws.specs.Plot.{PlotLists, numbers, count, number_at, f7_in, place_in, tree, asked, branch, NumbersRise}
-use Rattle.pos_laws.specs.Listing.{IsSpan}
+use Rattle.pos_lists.specs.PlotLists.{PlotLists, numbers, count, number_at, f7_in, place_in, NumbersRise}
+use Rattle.pos_lists.specs.Trees.{tree, branch}
+use Rattle.pos_laws.specs.Listing.{asked, IsSpan}
 use Rattle.pos_laws.specs.WalkLaws.{SpanIsAsked, ListingBySpan, PairsBySpan, BoundsAreThere, OneBound, SpanIsOrdered}
 use Rattle.pos_laws.proofs.Listed.{length-listing, at-listing}
 use Rattle.pos_laws.proofs.Branches.{length-quality_pairs, pairs_are_branches}
@@ -51,7 +52,7 @@ unfolding asked
 span_is_asked p c first second s =
     let o = span_is_ordered p c first second s in
     let e : first + (second - first) ≡ second = omega arith in
-    filter_range (λ s. f7_in p s == challenge_value p.k c) (numbers p 7) first (second - first) (omega arith)
+    filter_range (λ s. f7_in p.k s == challenge_value p.k c) (numbers p 7) first (second - first) (omega arith)
     (λ i l. ne_eqb _ _ (λ f. omega (arith, s.lower.below i l)))
     (λ i l.
     let a = s.lower.from (first + i) (omega arith) (omega arith) in
@@ -76,7 +77,7 @@ pub listing_by_span : ListingBySpan
 listing_by_span p c first second s =
     let n = length_asked p c first second s in (
       length-listing p c ∙ n,
-      λ j l. at-listing p c j [] (omega arith) ∙ ap (λ q. tree p 6 (place_in p q)) (at_asked p c first second j s l),
+      λ j l. at-listing p c j [] (omega arith) ∙ ap (λ q. tree p 6 (place_in p.k q)) (at_asked p c first second j s l),
     )
 
 pub pairs_by_span : PairsBySpan
@@ -85,27 +86,27 @@ pairs_by_span p c first second s =
       length-quality_pairs p c ∙ length-listing p c ∙ n,
       λ j l.
           pairs_are_branches p c j (omega arith)
-          ∙ ap (λ q. branch p 5 (quality_index c) (place_in p q)) (at_asked p c first second j s l),
+          ∙ ap (λ q. branch p 5 (quality_index c) (place_in p.k q)) (at_asked p c first second j s l),
     )
 
 -- ---- bounds
 
-f7_mono : (p : PlotLists) (s t : ℕ) → s ≤ t → f7_in p s ≤ f7_in p t
+f7_mono : (p : PlotLists) (s t : ℕ) → s ≤ t → f7_in p.k s ≤ f7_in p.k t
 f7_mono p s t l =
     le-div (s / 2 ^ (p.k + 1)) t (2 ^ (p.k + 1)) (pow_pos (p.k + 1)) (omega (arith, div-add-mod' s (2 ^ (p.k + 1))))
 
 -- a bound among the first m places
 record BoundTo (p : PlotLists) (f m i : ℕ) : Type 0 where
   inside : i ≤ m
-  below : (j : ℕ) → j < i → f7_in p (number_at p 7 j) < f
-  from : (j : ℕ) → i ≤ j → j < m → f ≤ f7_in p (number_at p 7 j)
+  below : (j : ℕ) → j < i → f7_in p.k (number_at p 7 j) < f
+  from : (j : ℕ) → i ≤ j → j < m → f ≤ f7_in p.k (number_at p 7 j)
 
 bound_to : (p : PlotLists) (f : ℕ) → NumbersRise p → (m : ℕ) → m ≤ count p 7 → (i : ℕ) × BoundTo p f m i
 bound_to p f rise zero l = (0, record { inside = omega arith; below = λ j g. absurd (omega arith); from = λ j g h. absurd (omega arith) })
 bound_to p f rise (suc m) l =
     let b = bound_to p f rise m (omega arith) in
     let h = b.1 in
-    let last = f7_in p (number_at p 7 m) in
+    let last = f7_in p.k (number_at p 7 m) in
     ⊎_elim
     (λ (g : last < f).
     let e : b.0 ≡ m =
@@ -118,7 +119,7 @@ bound_to p f rise (suc m) l =
       suc m,
       record {
         inside = omega arith;
-        below = λ j o. ⊎_elim (λ (q : j < m). h.below j (omega arith)) (λ (q : m ≤ j). let r : m ≡ j = omega arith in subst (λ v. f7_in p (number_at p 7 v) < f) r g) (cases_lt j m);
+        below = λ j o. ⊎_elim (λ (q : j < m). h.below j (omega arith)) (λ (q : m ≤ j). let r : m ≡ j = omega arith in subst (λ v. f7_in p.k (number_at p 7 v) < f) r g) (cases_lt j m);
         from = λ j o q. absurd (omega arith);
       },
     ))
@@ -127,7 +128,7 @@ bound_to p f rise (suc m) l =
       record {
         inside = omega (arith, h.inside);
         below = h.below;
-        from = λ j o q. ⊎_elim (λ (r : j < m). h.from j o r) (λ (r : m ≤ j). let e : m ≡ j = omega arith in subst (λ v. f ≤ f7_in p (number_at p 7 v)) e g) (cases_lt j m);
+        from = λ j o q. ⊎_elim (λ (r : j < m). h.from j o r) (λ (r : m ≤ j). let e : m ≡ j = omega arith in subst (λ v. f ≤ f7_in p.k (number_at p 7 v)) e g) (cases_lt j m);
       },
     ))
     (cases_lt last f)

@@ -6,10 +6,10 @@ use Rattle.std.proofs.lemmas.List.Kept.{AllPairs-filter}
 use Rattle.pos_tuple.specs.declared.entry.Entry.{Entry}
 use Rattle.pos_tuple.specs.Match.{Match, is_match}
 use Rattle.pos_tuple.specs.Node.{first_entry, next_entry}
-use Rattle.pos_laws.specs.Tables.{TableLists, left_in, right_in}
-use Rattle.pos_laws.specs.Making.{AreNodes, NeverFalls, IsFirstTable, IsNextTable, AreMade, with_level}
+use Rattle.pos_lists.specs.TableLists.{TableLists, left_in, right_in, with_level}
+use Rattle.pos_laws.specs.Making.{AreNodes, NeverFalls, IsFirstTable, IsNextTable, AreMade}
 use Rattle.pos_laws.specs.ThereLaws.{TablesAreThere}
-use Rattle.pos_laws.proofs.Matching.{match_from_test, test_from_match}
+use Rattle.pos_order.proofs.NodeParts.{match_from_test, test_from_match}
 use Rattle.pos_laws.proofs.Made.{no_entry, first_table_is_right}
 use Rattle.pos_laws.proofs.MadeLevels.{first_table_is_made, next_table_is_made, made_tables_describe}
 use Rattle.pos_laws.proofs.SameLists.{contains_at}

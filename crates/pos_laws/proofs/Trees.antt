@@ -1,7 +1,7 @@
 -- Trees that rise by place, joined by line points: the joined trees rise with their points.
 use Rattle.std.proofs.Common.{◌≡◌, ℕ, ◌<◌, ⊎_elim, List, ◌++◌, length, sym, ap, ap₂, ◌∙◌, subst, arith}
 use Rattle.std.proofs.lemmas.Bool.{cases_order}
-use Rattle.pos_points.specs.Points.{greater, lesser}
+use Rattle.pos_lists.specs.Pairs.{greater, lesser}
 use Rattle.pos_laws.specs.OrderLaws.{TreesRise, joined_tree, PointsRiseAsTrees, PointsArePlotOrdered}
 use Rattle.pos_laws.proofs.LinePoints.{points_rise, point_of_a_pair, point_has_its_pair}
 use Rattle.pos_order.proofs.OrderLemmas.{Under, under_from_below, below_from_under, under_back, under_front, under_one_way, lesser_first-kept, lesser_first-exchanged}

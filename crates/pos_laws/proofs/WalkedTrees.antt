@@ -1,9 +1,10 @@
 -- Reading a plot in range, with nothing wrong, gives its trees and its branches.
 use Rattle.std.proofs.Common.{◌≡◌, ℕ, zero, suc, ◌+◌, ◌-◌, ◌%◌, ◌^◌, ◌<◌, ◌≤◌, ⊎_elim, nat_lt, if◌then◌else◌, Result, Ok, sym, refl, ap, ap₂, ◌∙◌, subst, arith, lt-ltb, le-ltb}
 use Rattle.std.proofs.lemmas.Bool.{cases_lt}
-use Rattle.pos_points.specs.Points.{greater, lesser}
-use Rattle.pos_laws.specs.Plot.{PlotLists, count, number_at, limit, tree, branch, place_in}
-use Rattle.pos_laws.specs.Walk.{after, join_ok, walk, limb, walk_from, limb_from}
+use Rattle.pos_lists.specs.Pairs.{greater, lesser}
+use Rattle.pos_lists.specs.PlotLists.{PlotLists, count, number_at, place_in}
+use Rattle.pos_lists.specs.Trees.{limit, tree, branch}
+use Rattle.pos_lists.specs.Walk.{after, join_ok, walk, limb, walk_from, limb_from}
 use Rattle.pos_laws.specs.WalkLaws.{WalkIsTheTree, LimbIsTheBranch, WalkFromTheTop, LimbFromTheTop}
 use Rattle.pos_laws.proofs.AnyFile.{lesser_below_greater, limit-suc}
 use Rattle.pos_laws.proofs.Branches.{branch-low, branch-high}
@@ -63,11 +64,11 @@ pub walk_from_the_top : {E : Type 0} → WalkFromTheTop E
 unfolding walk_from
 walk_from_the_top num p i range reads l =
     ap (λ r. after r (λ s. walk num 6 (s % 2 ^ (p.k + 1)))) (reads 6 i (omega arith) l)
-    ∙ walk_is_the_tree num p 6 (place_in p (number_at p 7 i)) range reads (omega arith)
-    (subst (λ v. place_in p (number_at p 7 i) < v) (sym (limit-suc p 5)) (range.places i l))
+    ∙ walk_is_the_tree num p 6 (place_in p.k (number_at p 7 i)) range reads (omega arith)
+    (subst (λ v. place_in p.k (number_at p 7 i) < v) (sym (limit-suc p 5)) (range.places i l))
 
 pub limb_from_the_top : {E : Type 0} → LimbFromTheTop E
 unfolding limb_from
 limb_from_the_top num p q i range reads l =
     ap (λ r. after r (λ s. limb num 5 q (s % 2 ^ (p.k + 1)))) (reads 6 i (omega arith) l)
-    ∙ limb_is_the_branch num p 5 q (place_in p (number_at p 7 i)) range reads (omega arith) (range.places i l)
+    ∙ limb_is_the_branch num p 5 q (place_in p.k (number_at p 7 i)) range reads (omega arith) (range.places i l)

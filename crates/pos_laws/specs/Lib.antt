@@ -1,12 +1,9 @@
 pub mod Tables
 pub mod Kept
 pub mod Making
-pub mod Pruning
-pub mod Plot
 pub mod PlotOf
 pub mod Renumbering
 pub mod Listing
-pub mod Walk
 pub mod NodeLaws
 pub mod OrderLaws
 pub mod TableLaws
@@ -15,4 +12,5 @@ pub mod RenumberingLaws
 pub mod PlotLaws
 pub mod ListingLaws
 pub mod WalkLaws
+pub mod PassLaws
 pub mod ThereLaws

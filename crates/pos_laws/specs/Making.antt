@@ -1,10 +1,11 @@
 -- How the tables are made, one from the one before, and when there are too many entries.
 -- Source: the Construction document, "forward propagation". Levels count from 0 to 6, as in the tables.
-use Rattle.std.specs.Prelude.{◌≡◌, ◌≢◌, ℕ, ◌+◌, ◌^◌, ◌≤◌, ◌<◌, List, [], ◌∷◌, ◌++◌, length, map, slice_index_or, All, AllPairs, Contains, Some}
+use Rattle.std.specs.Prelude.{◌≡◌, ◌≢◌, ℕ, ◌+◌, ◌-◌, ◌^◌, ◌≤◌, ◌<◌, List, length, map, slice_index_or, All, AllPairs, Contains, Some}
 use Rattle.pos_tuple.specs.declared.entry.Entry.{Entry}
 use Rattle.pos_tuple.specs.Match.{Match}
 use Rattle.pos_tuple.specs.Node.{node, first_entry, next_entry}
-use Rattle.pos_laws.specs.Tables.{TableLists, left_in, right_in, entries, tuple, HasNode, PairsInside}
+use Rattle.pos_laws.specs.Tables.{HasNode}
+use Rattle.pos_lists.specs.TableLists.{TableLists, left_in, right_in, entries, tuple, PairsInside}
 
 -- es are the entries of level n of these tables, by place; they are all that there are, each once
 pub record AreNodes (ts : TableLists) (id : List ℕ) (k n : ℕ) (es : List Entry) : Type 0 where
@@ -47,10 +48,13 @@ pub record AreMade (ts : TableLists) (id : List ℕ) (k n : ℕ) : Type 0 where
   pub inside : PairsInside ts n
   pub made : (m : ℕ) → m ≤ n → (es : List Entry) × AreNodes ts id k m es × NeverFalls es
 
--- these tables with the pairs of one more level
-abbrev pub with_level : TableLists → List (ℕ × ℕ) → TableLists
-with_level ts ps = record ts { pairs = ts.pairs ++ ps ∷ [] }
-
 -- more than c tuples have a node at level n: there is a list of so many different ones
 abbrev pub IsAbove : List ℕ → ℕ → ℕ → ℕ → Type 0
 IsAbove id k n c = (xs : List (List ℕ)) × (c < length xs) × AllPairs ◌≢◌ xs × All (HasNode id k n) xs
+
+-- table t, from 2 to 7, is the first that has more than c entries
+pub record IsFull (id : List ℕ) (k c t : ℕ) : Type 0 where
+  pub second : 2 ≤ t
+  pub seventh : t ≤ 7
+  pub above : IsAbove id k (t - 1) c
+  pub first : (s : ℕ) → 2 ≤ s → s < t → IsAbove id k (s - 1) c → ⊥

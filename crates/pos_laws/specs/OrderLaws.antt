@@ -1,9 +1,8 @@
--- What is proved of the orders of tuples: line points keep the order of trees, and plot order loses nothing on
--- tuples that have a node.
+-- What is proved of the orders of tuples: line points keep the order of trees, and a tuple is a turning of its plot order.
 use Rattle.std.specs.Prelude.{◌≡◌, ◌≢◌, ℕ, ◌^◌, ◌<◌, ◌⊎◌, List, ◌++◌, length}
-use Rattle.pos_points.specs.Points.{greater, lesser, point_of}
+use Rattle.pos_points.specs.Points.{point_of}
+use Rattle.pos_lists.specs.Pairs.{greater, lesser}
 use Rattle.pos_order.specs.Order.{Below, lesser_first, plot_order, Turning}
-use Rattle.pos_laws.specs.Tables.{HasNode}
 
 -- the trees of the places below m, given by place, rise
 abbrev pub TreesRise : (ℕ → List ℕ) → ℕ → Type 0
@@ -39,16 +38,6 @@ abbrev pub PointsArePlotOrdered : Type 0
 PointsArePlotOrdered = (f : ℕ → List ℕ) (m x y : ℕ) → TreesRise f m → x < m → y < m → x ≢ y →
     joined_tree f (point_of x y) ≡ lesser_first (f x) (f y)
 
--- two tuples that have a node and one plot order are one tuple
-abbrev pub PlotOrderIsExact : Type 0
-PlotOrderIsExact = (id : List ℕ) (k n : ℕ) (xs ys : List ℕ) → HasNode id k n xs → HasNode id k n ys →
-    plot_order n xs ≡ plot_order n ys → xs ≡ ys
-
 -- a tuple is a turning of its plot order
 abbrev pub TuplesTurnTheirPlotOrder : Type 0
 TuplesTurnTheirPlotOrder = (n : ℕ) (xs : List ℕ) → length xs ≡ 2 ^ n → Turning n xs (plot_order n xs)
-
--- at most one turning of a tuple has a node
-abbrev pub OneTurning : Type 0
-OneTurning = (id : List ℕ) (k n : ℕ) (zs ws xs : List ℕ) → Turning n zs xs → Turning n ws xs →
-    HasNode id k n zs → HasNode id k n ws → zs ≡ ws

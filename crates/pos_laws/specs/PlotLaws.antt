@@ -1,11 +1,13 @@
 -- What is proved of the plot of an id: the pruned and renumbered tables are it, and there is only one.
 use Rattle.std.specs.Prelude.{◌≡◌, ℕ, suc, ◌+◌, ◌-◌, ◌^◌, ◌≤◌, ◌<◌, ◌⊎◌, ◌↔◌, List, length, All}
-use Rattle.pos_points.specs.Points.{greater, lesser}
+use Rattle.pos_lists.specs.Pairs.{greater, lesser}
 use Rattle.pos_order.specs.Order.{Below, plot_order}
-use Rattle.pos_laws.specs.Tables.{TableLists, Describes}
+use Rattle.pos_laws.specs.Tables.{Describes}
+use Rattle.pos_lists.specs.TableLists.{TableLists}
 use Rattle.pos_laws.specs.Kept.{IsKept, IsHalved}
-use Rattle.pos_laws.specs.Plot.{PlotLists, count, number_at, tree, NumbersRise, IsInRange}
-use Rattle.pos_laws.specs.PlotOf.{IsPlotOf}
+use Rattle.pos_lists.specs.PlotLists.{PlotLists, count, number_at, NumbersRise}
+use Rattle.pos_lists.specs.Trees.{tree, IsInRange}
+use Rattle.pos_laws.specs.PlotOf.{PlotOf}
 use Rattle.pos_laws.specs.Renumbering.{IsRelocated}
 
 -- what is kept is exactly what comes by halving tuples of 64 that have a node
@@ -15,7 +17,7 @@ KeptIsHalved = (id : List ℕ) (k n : ℕ) (xs : List ℕ) → n ≤ 6 → IsKep
 -- the tables of an id, renumbered, are the plot of the id
 abbrev pub RelocatedIsThePlot : Type 0
 RelocatedIsThePlot = (ts : TableLists) (id : List ℕ) (k : ℕ) (p : PlotLists) (place : ℕ → ℕ → ℕ) → Describes ts id k →
-    IsRelocated ts p place → p.id ≡ id → p.k ≡ k → length p.tables ≡ 7 → IsPlotOf p id k
+    IsRelocated ts p place → p.id ≡ id → p.k ≡ k → length p.tables ≡ 7 → PlotOf p id k
 
 -- and in range, where table 6 has at most 2 ^ (k + 1) numbers
 abbrev pub RelocatedIsInRange : Type 0
@@ -24,14 +26,14 @@ RelocatedIsInRange = (ts : TableLists) (id : List ℕ) (k : ℕ) (p : PlotLists)
 
 -- every number of tables 1 to 5 is named by a number of the next table
 abbrev pub NoneIsDead : Type 0
-NoneIsDead = (p : PlotLists) (id : List ℕ) (k n i : ℕ) → IsPlotOf p id k → IsInRange p → n < 5 → i < count p (suc n) →
+NoneIsDead = (p : PlotLists) (id : List ℕ) (k n i : ℕ) → PlotOf p id k → IsInRange p → n < 5 → i < count p (suc n) →
     (j : ℕ) × (j < count p (suc (suc n))) ×
     ((i ≡ lesser (number_at p (suc (suc n)) j)) ⊎ (i ≡ greater (number_at p (suc (suc n)) j)))
 
 -- an id and a size have at most one plot
 abbrev pub OnePlot : Type 0
 OnePlot = (p q : PlotLists) (id : List ℕ) (k : ℕ) →
-    IsPlotOf p id k → IsInRange p → IsPlotOf q id k → IsInRange q → p ≡ q
+    PlotOf p id k → IsInRange p → PlotOf q id k → IsInRange q → p ≡ q
 
 -- in any plot in range whose numbers rise, be it of an id or not, the trees of a table rise by place
 abbrev pub TreesRiseByPlace : Type 0
@@ -54,4 +56,4 @@ TreeValuesAreBelow = (p : PlotLists) (n i : ℕ) → IsInRange p → n < 6 → i
 
 -- the numbers of the plot of an id rise in every table
 abbrev pub PlotNumbersRise : Type 0
-PlotNumbersRise = (p : PlotLists) (id : List ℕ) (k : ℕ) → IsPlotOf p id k → IsInRange p → NumbersRise p
+PlotNumbersRise = (p : PlotLists) (id : List ℕ) (k : ℕ) → PlotOf p id k → IsInRange p → NumbersRise p

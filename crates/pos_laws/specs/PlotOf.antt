@@ -4,7 +4,8 @@ use Rattle.std.specs.Prelude.{◌≡◌, ℕ, suc, ◌<◌, List, length, AllPai
 use Rattle.pos_tuple.specs.Proof.{f7}
 use Rattle.pos_order.specs.Order.{Below, plot_order}
 use Rattle.pos_laws.specs.Kept.{IsKept}
-use Rattle.pos_laws.specs.Plot.{PlotLists, numbers, count, last_number, tree}
+use Rattle.pos_lists.specs.PlotLists.{PlotLists, numbers, count, last_number}
+use Rattle.pos_lists.specs.Trees.{tree}
 
 -- place i of table n stands for the tuple xs: its tree is the plot order of xs
 abbrev pub StandsFor : PlotLists → ℕ → ℕ → List ℕ → Type 0
@@ -18,7 +19,7 @@ IsLastNumber p id k i s =
 
 -- the trees of tables 1 to 6 rise by place, and the places stand for exactly the kept tuples; table 7
 -- has, rising, exactly one number for each place of table 6
-pub record IsPlotOf (p : PlotLists) (id : List ℕ) (k : ℕ) : Type 0 where
+pub record PlotOf (p : PlotLists) (id : List ℕ) (k : ℕ) : Type 0 where
   pub same_id : p.id ≡ id
   pub same_size : p.k ≡ k
   pub seven : length p.tables ≡ 7

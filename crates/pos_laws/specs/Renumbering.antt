@@ -1,10 +1,15 @@
 -- How the used places of the tables become the places of a plot: by the order of their line points.
 -- Source: the Construction document, "compression" and "sort on line points".
-use Rattle.std.specs.Prelude.{◌≡◌, ℕ, suc, ◌/◌, ◌<◌, Bool, List, [], ◌∷◌, length, slice_index, slice_index_or, AllPairs, Contains}
+use Rattle.std.specs.Prelude.{◌≡◌, ℕ, suc, ◌/◌, ◌<◌, ◌==◌, if◌then◌else◌, List, [], ◌∷◌, length, slice_index, slice_index_or, AllPairs, Contains}
 use Rattle.pos_points.specs.Points.{point_of}
-use Rattle.pos_laws.specs.Tables.{TableLists, entries, left_of, right_of}
-use Rattle.pos_laws.specs.Pruning.{IsUsed, rank}
-use Rattle.pos_laws.specs.Plot.{PlotLists, numbers, last_number}
+use Rattle.pos_lists.specs.TableLists.{TableLists, entries, left_of, right_of}
+use Rattle.pos_lists.specs.Used.{IsUsed}
+use Rattle.pos_lists.specs.Rank.{first_in, second_in}
+use Rattle.pos_lists.specs.PlotLists.{PlotLists, numbers, last_number}
+
+-- different used places of level n stand at different new places
+abbrev pub IsOneToOne : TableLists → ℕ → (ℕ → ℕ) → Type 0
+IsOneToOne ts n old = (i j : ℕ) → IsUsed ts n i → IsUsed ts n j → old i ≡ old j → i ≡ j
 
 -- the line point of a place of level n + 1, whose pair's places stand below at the places that old gives
 abbrev pub point_at : TableLists → ℕ → (ℕ → ℕ) → ℕ → ℕ
@@ -35,13 +40,6 @@ pub record IsRelocated (ts : TableLists) (p : PlotLists) (place : ℕ → ℕ �
   pub six : (n : ℕ) → n < 6 → IsRenumbered ts n (place n) (place (suc n)) (numbers p (suc n))
   pub seventh : IsLastTable ts p.k (place 6) (numbers p 7)
 
--- the first and the second number of a pair in a list of pairs
-abbrev pub first_in : List (ℕ × ℕ) → ℕ → ℕ
-first_in xs i = (slice_index_or xs i (0, 0)).0
-
-abbrev pub second_in : List (ℕ × ℕ) → ℕ → ℕ
-second_in xs i = (slice_index_or xs i (0, 0)).1
-
 -- the work on level n + 1: the points of the used places, each with its place, by rising point; and the
 -- used places, by rising place, each with the place where its point stands in the first list
 pub record IsNumbered (ts : TableLists) (n : ℕ) (old : ℕ → ℕ) (pointed moved : List (ℕ × ℕ)) : Type 0 where
@@ -59,6 +57,16 @@ unfoldable pub firsts : List (ℕ × ℕ) → List ℕ
 firsts [] = []
 firsts (x ∷ xs) = x.0 ∷ firsts xs
 
--- the new place of an old one: at its rank among the used places
-abbrev pub new_place : (ℕ → Bool) → List (ℕ × ℕ) → ℕ → ℕ
-new_place p moved i = second_in moved (rank p i)
+-- the levels 1 to m are renumbered, one after another, into these lists; place n gives the new places of level n
+pub record AreRenumbered (ts : TableLists) (m : ℕ) (place : ℕ → ℕ → ℕ) (lists : List (List ℕ)) : Type 0 where
+  pub values : (i : ℕ) → place 0 i ≡ slice_index ts.values i
+  pub as_long : length lists ≡ m
+  pub levels : (n : ℕ) → n < m → IsRenumbered ts n (place n) (place (suc n)) (slice_index_or lists n [])
+
+-- the places of all levels, with those of one level given
+abbrev pub with_places : ℕ → (ℕ → ℕ) → (ℕ → ℕ → ℕ) → ℕ → ℕ → ℕ
+with_places m new place n = if n == m then new else place n
+
+-- the plot of these lists
+abbrev pub plot_with : List ℕ → ℕ → List (List ℕ) → PlotLists
+plot_with id k lists = record { id = id; k = k; tables = lists }

@@ -1,9 +1,11 @@
 -- What is proved of making tables: done table by table it describes the id, and the count of a table's
 -- entries is the count of tuples with a node.
-use Rattle.std.specs.Prelude.{◌≡◌, ℕ, suc, ◌≤◌, ◌<◌, List, length, map}
+use Rattle.std.specs.Prelude.{◌≡◌, ℕ, suc, ◌+◌, ◌≤◌, ◌<◌, List, length, map}
 use Rattle.pos_tuple.specs.declared.entry.Entry.{Entry}
-use Rattle.pos_laws.specs.Tables.{TableLists, pairs_of, Describes}
-use Rattle.pos_laws.specs.Making.{AreNodes, NeverFalls, IsFirstTable, AreMatching, IsNextTable, AreMade, with_level, IsAbove}
+use Rattle.pos_laws.specs.Tables.{Describes}
+use Rattle.pos_lists.specs.TableLists.{TableLists, pairs_of, entries, with_level}
+use Rattle.pos_lists.specs.Sound.{IsSound, IsWithin}
+use Rattle.pos_laws.specs.Making.{AreNodes, NeverFalls, IsFirstTable, AreMatching, IsNextTable, AreMade, IsAbove, IsFull}
 
 -- the entries of all values are those of level 0
 abbrev pub FirstTableIsRight : Type 0
@@ -47,3 +49,22 @@ EntriesAreAbove = (ts : TableLists) (id : List ℕ) (k n c : ℕ) (es : List Ent
 abbrev pub PairsAreAbove : Type 0
 PairsAreAbove = (ts : TableLists) (id : List ℕ) (k n c : ℕ) (below : List Entry) (pairs : List (ℕ × ℕ)) →
     AreNodes ts id k n below → AreMatching below pairs → c < length pairs → IsAbove id k (suc n) c
+
+-- the tables of an id are sound
+abbrev pub DescribedIsSound : Type 0
+DescribedIsSound = (ts : TableLists) (id : List ℕ) (k : ℕ) → Describes ts id k → IsSound ts k
+
+-- where no level from 1 to n has more than c entries, and the next has more than c matching pairs, the next table is the
+-- first that is full
+abbrev pub MorePairsAreFull : Type 0
+MorePairsAreFull = (ts : TableLists) (id : List ℕ) (k n c : ℕ) (below : List Entry) (pairs : List (ℕ × ℕ)) → n < 6 →
+    AreMade ts id k n → ((m : ℕ) → 0 < m → m ≤ n → entries ts m ≤ c) →
+    AreNodes ts id k n below → AreMatching below pairs → c < length pairs → IsFull id k c (n + 2)
+
+-- and where all levels have at most c entries no table is full
+abbrev pub NoneIsFull : Type 0
+NoneIsFull = (ts : TableLists) (id : List ℕ) (k c t : ℕ) → AreMade ts id k 6 → IsWithin c ts → IsFull id k c t → ⊥
+
+-- at most one table is the first that is full
+abbrev pub OneIsFull : Type 0
+OneIsFull = (id : List ℕ) (k c s t : ℕ) → IsFull id k c s → IsFull id k c t → s ≡ t

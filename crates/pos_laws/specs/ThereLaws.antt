@@ -1,10 +1,12 @@
 -- What is proved of all that the other laws speak of: that it is there. Each id and each size has its tables;
 -- and where not too many tuples of 64 have a node, it has its plot, and each challenge its list of proofs.
 use Rattle.std.specs.Prelude.{ℕ, ◌+◌, ◌^◌, ◌≤◌, ◌<◌, List}
-use Rattle.pos_laws.specs.Tables.{TableLists, Describes}
+use Rattle.pos_laws.specs.Tables.{Describes}
+use Rattle.pos_lists.specs.TableLists.{TableLists}
 use Rattle.pos_laws.specs.Making.{IsAbove}
-use Rattle.pos_laws.specs.Plot.{PlotLists, count, IsInRange}
-use Rattle.pos_laws.specs.PlotOf.{IsPlotOf}
+use Rattle.pos_lists.specs.PlotLists.{PlotLists, count}
+use Rattle.pos_lists.specs.Trees.{IsInRange}
+use Rattle.pos_laws.specs.PlotOf.{PlotOf}
 use Rattle.pos_laws.specs.Renumbering.{IsRelocated}
 use Rattle.pos_laws.specs.Listing.{Lists, AreTurned}
 
@@ -16,16 +18,16 @@ TablesAreThere = (id : List ℕ) (k : ℕ) → (ts : TableLists) × Describes ts
 abbrev pub RenumberingIsThere : Type 0
 RenumberingIsThere = (ts : TableLists) (id : List ℕ) (k : ℕ) → Describes ts id k → (IsAbove id k 6 (2 ^ (k + 1)) → ⊥) →
     (p : PlotLists) × (place : ℕ → ℕ → ℕ) ×
-    IsRelocated ts p place × IsPlotOf p id k × IsInRange p × (count p 6 ≤ 2 ^ (k + 1))
+    IsRelocated ts p place × PlotOf p id k × IsInRange p × (count p 6 ≤ 2 ^ (k + 1))
 
 -- so the id has its plot
 abbrev pub PlotIsThere : Type 0
 PlotIsThere = (id : List ℕ) (k : ℕ) → (IsAbove id k 6 (2 ^ (k + 1)) → ⊥) →
-    (p : PlotLists) × IsPlotOf p id k × IsInRange p × (count p 6 ≤ 2 ^ (k + 1))
+    (p : PlotLists) × PlotOf p id k × IsInRange p × (count p 6 ≤ 2 ^ (k + 1))
 
 -- over a plot each tuple of a listing can be turned, and so each challenge has its list
 abbrev pub ListIsThere : Type 0
-ListIsThere = (p : PlotLists) (id : List ℕ) (k : ℕ) (c : List ℕ) → IsPlotOf p id k → count p 6 ≤ 2 ^ (k + 1) →
+ListIsThere = (p : PlotLists) (id : List ℕ) (k : ℕ) (c : List ℕ) → PlotOf p id k → count p 6 ≤ 2 ^ (k + 1) →
     (out : List (List ℕ)) × AreTurned p c out × Lists id k c out
 
 -- for a size up to 7 no two values match, so that the premise on proofs holds of every id

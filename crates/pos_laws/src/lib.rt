@@ -8,6 +8,7 @@
 pub mod listings;
 pub mod nodes;
 pub mod orders;
+pub mod passes;
 pub mod plots;
 pub mod pruning;
 pub mod renumbering;

@@ -1,6 +1,6 @@
-//! Line points keep the order of trees, and plot order loses nothing on tuples that have a node.
+//! Line points keep the order of trees, and a tuple is a turning of its plot order.
 
-ghost use Rattle.pos_laws.specs.OrderLaws.{BelowIsTotal, BelowGoesOneWay, BelowIsTransitive, PointsRise, PointsRiseAsTrees, PointsArePlotOrdered, PlotOrderIsExact, TuplesTurnTheirPlotOrder, OneTurning};
+ghost use Rattle.pos_laws.specs.OrderLaws.{BelowIsTotal, BelowGoesOneWay, BelowIsTransitive, PointsRise, PointsRiseAsTrees, PointsArePlotOrdered, TuplesTurnTheirPlotOrder};
 
 /// Of two different tuples of one length just one is below the other.
 pub fn below_is_total()
@@ -32,17 +32,7 @@ pub fn points_are_plot_ordered()
     ensures { PointsArePlotOrdered }
 {}
 
-/// Two tuples that have a node and one plot order are one tuple.
-pub fn plot_order_is_exact()
-    ensures { PlotOrderIsExact }
-{}
-
 /// A tuple is a turning of its plot order.
 pub fn tuples_turn_their_plot_order()
     ensures { TuplesTurnTheirPlotOrder }
-{}
-
-/// At most one turning of a tuple has a node.
-pub fn one_turning()
-    ensures { OneTurning }
 {}

@@ -1,25 +1,20 @@
 //! The order of line points and a count of marks give each used place one new place.
 
-ghost use Rattle.pos_laws.specs.RenumberingLaws.{RanksAreBelow, RanksOfAll, RanksAreIndices, NumberedIsRenumbered, ValuesAreApart, PairsDiffer, PointsDiffer, RenumberedIsApart, LastNumbersDiffer};
-
-/// A rank is at most its place.
-pub fn ranks_are_below()
-    ensures { RanksAreBelow }
-{}
-
-/// Where every place below is marked, a rank is its place.
-pub fn ranks_of_all()
-    ensures { RanksOfAll }
-{}
-
-/// In a rising list of the marked places each stands at its rank.
-pub fn ranks_are_indices()
-    ensures { RanksAreIndices }
-{}
+ghost use Rattle.pos_laws.specs.RenumberingLaws.{NumberedIsRenumbered, NumberedIsApart, GatheredIsRenumbered, ValuesAreApart, PairsDiffer, PointsDiffer, RenumberedIsApart, LastNumbersDiffer, SortedIsLastTable};
 
 /// The work on one level renumbers it.
 pub fn numbered_is_renumbered()
     ensures { NumberedIsRenumbered }
+{}
+
+/// It gives different used places different new ones, whatever the tables are.
+pub fn numbered_is_apart()
+    ensures { NumberedIsApart }
+{}
+
+/// The same work with the new numbers by old place renumbers the level too.
+pub fn gathered_is_renumbered()
+    ensures { GatheredIsRenumbered }
 {}
 
 /// The values of level 0 differ.
@@ -45,4 +40,9 @@ pub fn renumbered_is_apart()
 /// The numbers of table 7 differ.
 pub fn last_numbers_differ()
     ensures { LastNumbersDiffer }
+{}
+
+/// The numbers of level 6, sorted, are table 7.
+pub fn sorted_is_last_table()
+    ensures { SortedIsLastTable }
 {}

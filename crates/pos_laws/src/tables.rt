@@ -1,6 +1,6 @@
 //! Made table by table, the tables describe the id; their counts are those of the tuples with a node.
 
-ghost use Rattle.pos_laws.specs.TableLaws.{FirstTableIsRight, NextTableIsRight, FirstTableIsMade, NextTableIsMade, MadeTablesDescribe, NoneIsAbove, EntriesAreAbove, PairsAreAbove};
+ghost use Rattle.pos_laws.specs.TableLaws.{FirstTableIsRight, NextTableIsRight, FirstTableIsMade, NextTableIsMade, MadeTablesDescribe, NoneIsAbove, EntriesAreAbove, PairsAreAbove, DescribedIsSound, MorePairsAreFull, NoneIsFull, OneIsFull};
 
 /// The entries of all values are those of level 0.
 pub fn first_table_is_right()
@@ -40,4 +40,24 @@ pub fn entries_are_above()
 /// More than c matching pairs of a level are more than c tuples with a node at the next.
 pub fn pairs_are_above()
     ensures { PairsAreAbove }
+{}
+
+/// The tables of an id are sound.
+pub fn described_is_sound()
+    ensures { DescribedIsSound }
+{}
+
+/// Where the levels so far are not too long and the next has too many pairs, the next table is the first that is full.
+pub fn more_pairs_are_full()
+    ensures { MorePairsAreFull }
+{}
+
+/// Where no level is too long no table is full.
+pub fn none_is_full()
+    ensures { NoneIsFull }
+{}
+
+/// At most one table is the first that is full.
+pub fn one_is_full()
+    ensures { OneIsFull }
 {}

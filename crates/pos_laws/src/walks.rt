@@ -1,6 +1,6 @@
 //! A span bounds the listing, a walk gives a tree, and one branch the two values of the quality.
 
-ghost use Rattle.pos_laws.specs.WalkLaws.{BranchIsOfTheTree, BranchGivesTheQuality, PairsAreBranches, SpanIsAsked, ListingBySpan, PairsBySpan, BoundsAreThere, OneBound, SpanIsOrdered, WalkIsTheTree, LimbIsTheBranch, WalkFromTheTop, LimbFromTheTop};
+ghost use Rattle.pos_laws.specs.WalkLaws.{BranchIsOfTheTree, BranchGivesTheQuality, PairsAreBranches, SpanIsAsked, ListingBySpan, PairsBySpan, BoundsAreThere, OneBound, SpanIsOrdered, WalkIsTheTree, LimbIsTheBranch, WalkFromTheTop, LimbFromTheTop, WalksHaveTheirLength, WalksHaveTheirValues, LimbsHaveTheirValues};
 
 /// A branch ends at the two values of the tree that its bits choose.
 pub fn branch_is_of_the_tree()
@@ -65,4 +65,19 @@ pub fn walk_from_the_top<E>()
 /// Reading one branch from a place of table 7 on gives the two values of its place of table 6.
 pub fn limb_from_the_top<E>()
     ensures { LimbFromTheTop E }
+{}
+
+/// Over any readings a walk that meets nothing wrong gives 2 ^ n values.
+pub fn walks_have_their_length<E>()
+    ensures { WalksHaveTheirLength E }
+{}
+
+/// These are below 2 ^ k where all numbers of table 1 are of values below 2 ^ k.
+pub fn walks_have_their_values<E>()
+    ensures { WalksHaveTheirValues E }
+{}
+
+/// So are the two values of a branch, the lesser first.
+pub fn limbs_have_their_values<E>()
+    ensures { LimbsHaveTheirValues E }
 {}

@@ -3,7 +3,8 @@ use Rattle.std.proofs.Common.{◌≡◌, ℕ, zero, suc, ◌+◌, ◌-◌, ◌*�
 use Rattle.std.proofs.Math.Nat.{mul-le-mul_left}
 use Rattle.std.proofs.lemmas.Bool.{ltb-true, ltb-false}
 use Rattle.std.proofs.lemmas.Bool.Decides.{nat_tests}
-use Rattle.pos_points.specs.Points.{line_point, next_pair, pair_at, greater, lesser, point_of}
+use Rattle.pos_points.specs.Points.{line_point, point_of}
+use Rattle.pos_lists.specs.Pairs.{next_pair, pair_at, greater, lesser}
 
 -- how many pairs there are of numbers below a
 unfoldable pub pairs_below : ℕ → ℕ

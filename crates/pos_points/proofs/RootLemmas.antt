@@ -27,9 +27,6 @@ module _ (s r b d1 d0 q u : ℕ) (division : q * (2 * s) + u ≡ r * b + d1) (un
   pub square_le : q * q ≤ b * q
   square_le = mul-le-mul_right q quotient_le
 
-  pub base_le : b * q ≤ 2 * s * q
-  base_le = mul-le-mul_right q wide
-
   pub base_square_le : b * q ≤ 2 * s * b
   base_square_le = let h : q * b ≤ 2 * s * b = mul-le-mul_right b (omega (arith, quotient_le)) in omega (arith, h)
 

@@ -1,6 +1,7 @@
 //! What holds of line points, whatever the code: each law is what a function with an empty body ensures.
 
-ghost use Rattle.pos_points.specs.Points.{greater, lesser, line_point, point_of};
+ghost use Rattle.pos_points.specs.Points.{line_point, point_of};
+ghost use Rattle.pos_lists.specs.Pairs.{greater, lesser};
 ghost use Rattle.std.specs.Prelude.{◌≡◌, ◌≢◌, ℕ, ◌*◌, ◌<◌, max, min};
 
 /// A line point is the place of its pair among all pairs in order, and each place is the line point of its pair.

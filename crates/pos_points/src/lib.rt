@@ -4,7 +4,8 @@
 mod laws;
 mod root;
 
-ghost use Rattle.pos_points.specs.Points.{greater, lesser, point_of};
+ghost use Rattle.pos_points.specs.Points.{point_of};
+ghost use Rattle.pos_lists.specs.Pairs.{greater, lesser};
 ghost use Rattle.std.specs.Prelude.{◌≡◌, ◌-◌, ◌*◌, ◌/◌, ◌<◌, ◌≢◌, ◌^◌, max, min};
 
 pub use laws::{points_are_in_either_order, points_are_places, points_keep_the_order};

@@ -1,4 +1,4 @@
-use Rattle.pos_laws.proofs.Matching.{match_goes_one_way}
+use Rattle.pos_order.proofs.NodeParts.{match_goes_one_way}
 use Rattle.pos_laws.proofs.nodes.match_goes_one_way.Goals as goal
 
 pub returns : goal.returns

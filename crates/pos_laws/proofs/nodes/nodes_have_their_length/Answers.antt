@@ -1,4 +1,4 @@
-use Rattle.pos_laws.proofs.NodeParts.{nodes_have_their_length}
+use Rattle.pos_order.proofs.NodeParts.{nodes_have_their_length}
 use Rattle.pos_laws.proofs.nodes.nodes_have_their_length.Goals as goal
 
 pub returns : goal.returns

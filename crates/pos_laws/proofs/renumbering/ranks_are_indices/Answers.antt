@@ -1,5 +1,0 @@
-use Rattle.pos_laws.proofs.Ranks.{ranks_are_indices}
-use Rattle.pos_laws.proofs.renumbering.ranks_are_indices.Goals as goal
-
-pub returns : goal.returns
-returns c = ranks_are_indices

@@ -1,0 +1,5 @@
+pub mod PairLemmas
+pub mod RankLemmas
+pub mod UsedLemmas
+pub mod NamedLemmas
+pub mod NumberingLemmas

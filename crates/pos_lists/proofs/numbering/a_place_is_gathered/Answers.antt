@@ -1,0 +1,5 @@
+use Rattle.pos_lists.proofs.NumberingLemmas.{a_place_is_gathered}
+use Rattle.pos_lists.proofs.numbering.a_place_is_gathered.Goals as goal
+
+pub returns : goal.returns
+returns c = a_place_is_gathered

@@ -1,0 +1,5 @@
+use Rattle.pos_lists.proofs.NamedLemmas.{a_pair_is_named}
+use Rattle.pos_lists.proofs.used.a_pair_is_named.Goals as goal
+
+pub returns : goal.returns
+returns c = a_pair_is_named

@@ -1,0 +1,14 @@
+pub mod Pairs
+pub mod Places
+pub mod Rank
+pub mod TableLists
+pub mod Used
+pub mod Numbering
+pub mod Sound
+pub mod PlotLists
+pub mod Trees
+pub mod Walk
+pub mod PairLaws
+pub mod RankLaws
+pub mod UsedLaws
+pub mod NumberingLaws
