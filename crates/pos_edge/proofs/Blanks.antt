@@ -1,11 +1,13 @@
 -- The names of a blank disk, by what was read.
 use Rattle.std.proofs.Common.{ℕ, ◌<◌, ◌≡◌, max, Bool, true, false, cond, List, [], ◌∷◌, ◌++◌, length, get_or, set, map, Option, Some, None, string_bytes, refl, sym, ap, ◌∙◌, subst, arith}
-use Rattle.std.specs.Prelude.{slice_get, option_map, is_some, IfNone, IfSome}
+use Rattle.std.specs.Prelude.{slice_get, option_map, is_some, is_ok, IfNone, IfSome, Ok, Err, IsErrOf, ◌↔◌}
+use Rattle.pos_edge.specs.declared.disk.FileId.{FileId}
+use Rattle.pos_edge.specs.declared.disk.CreateFault.TheVariants.{Exists, Memory as CreateMemory}
 use Rattle.std.proofs.lemmas.List.{length-map, length_push, get_or_push}
-use Rattle.std.proofs.lemmas.Bool.{false≢true}
+use Rattle.std.proofs.lemmas.Bool.{false≢true, true≢false}
 use Rattle.std.proofs.lemmas.Option.{none-some, same_Some, slice_get-map, slice_get_read, slice_get_within, slice_get-get_or, get_or_from_slice_get}
-use Rattle.pos_edge.specs.declared.blank_disk.BlankFile.{BlankFile}
-use Rattle.pos_edge.specs.declared.blank_disk.BlankHandle.{BlankHandle}
+use Rattle.pos_edge.specs.declared.doubles.blank_disk.BlankFile.{BlankFile}
+use Rattle.pos_edge.specs.declared.doubles.blank_disk.BlankHandle.{BlankHandle}
 use Rattle.pos_edge.specs.BlankDisks.{BlankName, BlankState, HasName, HasLength, size_if_live}
 use Rattle.pos_edge.specs.BlankFiles.{name_of, names_of, IsThereAt, change_at}
 use Rattle.pos_edge.specs.Quiet.{known_size}
@@ -32,13 +34,6 @@ has_length d i n size t e = (i, t.0, slice_get_within d.names i t.0 t.1, get_or_
 pub no_name : (files : List BlankFile) (d : BlankState) (n : List ℕ) → names_of files ≡ d.names → ((i : ℕ) → i < length files → IsThereAt (names_of files) i n → ⊥) → HasName n d → ⊥
 no_name files d n is none h =
     none h.0 (omega (arith, h.2, ap length is, length-map files name_of)) (h.1, subst (λ ns. slice_get ns h.0 ≡ Some h.1) (sym is) (slice_get-get_or d.names h.0 h.1 h.2 ∙ ap (λ x. Some x) h.3), h.4.0, h.4.1)
-
-pub added_length : (names new : List BlankName) (n : List ℕ) (d : BlankState) → new ≡ names ++ record { name = n; there = true; length = 0 } ∷ [] → new ≡ d.names → HasLength n 0 d
-added_length names new n d e is =
-    let kept : BlankName = record { name = n; there = true; length = 0 } in
-    let at : get_or d.names (length names) kept ≡ kept = ap (λ xs. get_or xs (length names) kept) (sym is ∙ e) ∙ get_or_push names kept kept (length names) refl in
-    let within : length names < length d.names = omega (arith, ap length (sym is ∙ e), length_push names kept) in
-    (length names, kept, within, at, (refl, refl, refl))
 
 -- a place that was changed
 pub change_is : (f : BlankName → BlankName) (files : List BlankFile) (slot : ℕ) (x y : BlankFile) → slot < length files → x ≡ get_or files slot x → name_of y ≡ f (name_of x)
@@ -94,3 +89,10 @@ place_named files n name new d is e same =
 pub lengthened : (file : BlankFile) (size end : ℕ) → size ≡ max file.length end
     → ◌≡◌ {A = BlankName} (record { name = string_bytes file.name; there = file.there; length = size }) (record { name = string_bytes file.name; there = file.there; length = max file.length end })
 lengthened file size end e = ap (λ n. let k : BlankName = record { name = string_bytes file.name; there = file.there; length = n } in k) e
+
+-- an answer other than Exists, where no file has the name
+pub memory_exactly : (n : List ℕ) (d : BlankState) → (HasName n d → ⊥) → IsErrOf {T = FileId} (Err CreateMemory) Exists ↔ HasName n d
+memory_exactly n d none = (λ is. absurd (false≢true cc), λ h. absurd (none h))
+
+pub made_exactly : (file : FileId) (n : List ℕ) (d : BlankState) → (HasName n d → ⊥) → IsErrOf (Ok file) Exists ↔ HasName n d
+made_exactly file n d none = (λ is. absurd (true≢false (ap is_ok is)), λ h. absurd (none h))

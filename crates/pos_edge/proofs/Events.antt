@@ -1,11 +1,11 @@
 -- What a history says of a name, and what one more event does to it.
-use Rattle.std.proofs.Common.{ℕ, ◌≤◌, ◌<◌, ◌≡◌, ◌⊎◌, ◌==◌, zero, suc, Bool, true, false, cond, ◌&&◌, List, [], ◌∷◌, ◌++◌, length, take, set, Option, Some, None, refl, sym, ap, ◌∙◌, subst, inl, inr, arith}
+use Rattle.std.proofs.Common.{ℕ, ◌+◌, ◌≤◌, ◌<◌, ◌≡◌, ◌⊎◌, ◌==◌, zero, suc, Bool, true, false, cond, ◌&&◌, List, [], ◌∷◌, ◌++◌, length, take, set, Option, Some, None, refl, sym, ap, ◌∙◌, subst, inl, inr, arith}
 use Rattle.std.specs.Prelude.{slice_get, option_map}
 use Rattle.std.specs.Str.{bytes_eq}
 use Rattle.std.proofs.lemmas.Bool.{and_left, cases_Bool, cases_eq, cases_order, ne_eqb, eq-eqb, cond-true, cond-false, both_ways}
 use Rattle.std.proofs.lemmas.List.{take_all, take-append-le, length_push}
 use Rattle.std.proofs.lemmas.List.Sums.{fold_push}
-use Rattle.std.proofs.lemmas.Option.{none-some, same_Some, cond_some, slice_get_within, get_or_from_slice_get}
+use Rattle.std.proofs.lemmas.Option.{none-some, same_Some, slice_get_within, get_or_from_slice_get}
 use Rattle.std.proofs.lemmas.Slice.Eq.{bytes_eq-Decides}
 use Rattle.pos_edge.specs.Log.{Act, Making, Writing, Syncing, Removing, Event, File, NameState, state_of, contents_of, bytes_of, acted, happened, never}
 use Rattle.pos_edge.specs.MemoryDisks.{DiskState, OpenFile, live_of, holds, is_there, name_in, IsSound, IsSoundFile}
@@ -107,10 +107,6 @@ not_there h log sound live not = elim (cases_order h.removals (state_of h.name l
   | inr (inr more) ↦ absurd (let x = sound.0 in omega arith)
 ]
 
--- the FileId's file is there
-pub name_there : (h : OpenFile) (log : List Event) (n : List ℕ) → name_in log (Some h) ≡ Some n → (is_there h log ≡ true) × (h.name ≡ n)
-name_there h log n is = cond_some (is_there h log) h.name n is
-
 pub name_in-there : (h : OpenFile) (log : List Event) → is_there h log ≡ true → name_in log (Some h) ≡ Some h.name
 name_in-there h log t = cond-true (is_there h log) (Some h.name) None t
 
@@ -146,6 +142,17 @@ name_kept_any log e None sound apart = refl
 name_kept_any log e (Some h) sound apart = elim (cases_Bool h.live) [
   | inl live ↦ name_kept log e (Some h) sound live apart
   | inr dead ↦ name_in-gone h (log ++ e ∷ []) (not_live h (log ++ e ∷ []) dead) ∙ sym (name_in-gone h log (not_live h log dead))
+]
+
+-- a removal leaves each FileId its file, or none
+pub name_kept_or_gone : (n : List ℕ) (log : List Event) (o : Option OpenFile) → ((h : OpenFile) → o ≡ Some h → IsSoundFile log h)
+    → (name_in (log ++ record { name = n; act = Removing } ∷ []) o ≡ name_in log o) ⊎ (name_in (log ++ record { name = n; act = Removing } ∷ []) o ≡ None)
+name_kept_or_gone n log None sound = inl refl
+name_kept_or_gone n log (Some h) sound = elim (cases_name n h.name) [
+  | inr other ↦ inl (name_in-same h log (log ++ record { name = n; act = Removing } ∷ []) (state_of-beside h.name log (record { name = n; act = Removing }) other))
+  | inl own ↦
+      let now : (state_of h.name (log ++ record { name = n; act = Removing } ∷ [])).removals ≡ (state_of h.name log).removals + 1 = ap (λ (s : NameState). s.removals) (subst (λ x. state_of x (log ++ record { name = n; act = Removing } ∷ []) ≡ acted Removing (state_of x log)) own (state_of-own n log Removing)) in
+      inr (name_in-gone h (log ++ record { name = n; act = Removing } ∷ []) (gone_there h (log ++ record { name = n; act = Removing } ∷ []) (let x = (sound h refl).0 in omega arith)))
 ]
 
 -- an event that removes nothing and shortens nothing leaves each FileId its file

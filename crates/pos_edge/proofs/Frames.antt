@@ -1,10 +1,9 @@
 -- Several calls as one: frames one after another, and what a crash may leave over them.
 use Rattle.std.proofs.Common.{ℕ, ◌≤◌, ◌≡◌, ◌↔◌, true, List, Option, refl, sym, ◌∙◌, subst, inl, inr, arith}
 use Rattle.std.proofs.lemmas.Bool.{cases_lt}
-use Rattle.pos_edge.specs.Clients.{FileBeside}
 use Rattle.pos_edge.specs.View.{View}
-use Rattle.pos_edge.specs.Frame.{ChangesOnly, ChangesFile, IsUntouched, Nothing, Just, NameOf}
-use Rattle.pos_edge.specs.Images.{EachImage, ImagesBy, IsOnlyImage}
+use Rattle.pos_edge.specs.Frame.{ChangesOnly, ChangesFile, FileBeside, IsUntouched, Nothing, Just, NameOf}
+use Rattle.pos_edge.specs.Images.{EachImage, ImagesBy}
 
 iff_then : {A B C : Type 0} → (A ↔ B) → (B ↔ C) → A ↔ C
 iff_then f g = (λ a. g.0 (f.0 a), λ c. f.1 (g.1 c))
@@ -103,22 +102,6 @@ file_beside names ids file a b p live apart other = record {
   images = λ n t i is from to. p.images n t i (other n is) from to;
 }
 
--- after a sync that succeeded there is one image from then on, as long as the file is left alone
-pub only_beside : (name : List ℕ) (kept : Option (List ℕ)) (names : List ℕ → Type 0) (ids : ℕ → Type 0) (a b : View)
-    → ChangesOnly names ids a b → (names name → ⊥) → IsOnlyImage name kept a → IsOnlyImage name kept b
-only_beside name kept names ids a b p k only = λ i is. only i ((p.images name b.clock i k p.clock (omega arith)).0 is)
-
 -- nothing changed, or an outside of the frame: untouched is a frame of any names
 pub untouched_frame : (names : List ℕ → Type 0) (ids : ℕ → Type 0) (a b : View) → IsUntouched a b → ChangesOnly names ids a b
 untouched_frame names ids a b u = frame_wider names Nothing ids Nothing a b (λ n x. absurd x) (λ f l x. absurd x) u.kept
-
--- a write and its sync are one write
-pub torn_synced : (R : Option (List ℕ) → Option (List ℕ) → Type 0) (file : ℕ) (names : List ℕ → Type 0) (ids : ℕ → Type 0) (a b c : View)
-    → b.name_of file ≡ a.name_of file → a.clock ≤ b.clock → ChangesOnly names ids b c → ImagesBy R file a b → ImagesBy (λ i j. j ≡ i) file b c → ImagesBy R file a c
-torn_synced R file names ids a b c same later kept first second = λ n named t i from to is. elim (cases_lt b.clock t) [
-  | inr earlier ↦ first n named t i from earlier ((kept.past n t i earlier).0 is)
-  | inl after ↦
-      let w = second n (same ∙ named) t i (omega arith) to is in
-      let u = first n named b.clock w.0 later (omega arith) w.1 in
-      (u.0, u.1, subst (R u.0) (sym w.2) u.2)
-]

@@ -8,13 +8,13 @@ use Rattle.std.proofs.lemmas.List.{length-set, length-map, length_push, map-appe
 use Rattle.std.proofs.lemmas.List.Sums.{sum_by_push, sum_by-set}
 use Rattle.std.proofs.lemmas.List.Elements.{All-head, All-tail, All-push, All-weaker}
 use Rattle.std.proofs.lemmas.Option.{none-some, same_Some}
-use Rattle.pos_edge.specs.declared.history.Entry.{Entry}
-use Rattle.pos_edge.specs.declared.history.Handle.{Handle}
-use Rattle.pos_edge.specs.declared.history.MemoryFile.{MemoryFile}
+use Rattle.pos_edge.specs.declared.doubles.history.Entry.{Entry}
+use Rattle.pos_edge.specs.declared.doubles.history.Handle.{Handle}
+use Rattle.pos_edge.specs.declared.doubles.history.MemoryFile.{MemoryFile}
 use Rattle.pos_edge.specs.Images.{written}
 use Rattle.pos_edge.specs.Log.{Act, Making, Writing, Syncing, Removing, Event, File, NameState, state_of, bytes_of, with_write, as_synced, acted, happened, never, is_clean, is_none_left}
 use Rattle.pos_edge.specs.MemoryDisks.{OpenFile, IsSoundFile, HistoryState}
-use Rattle.pos_edge.specs.Histories.{Cache, cache_of, no_file, act_of, event_of, open_of, IsKeptFile, IsKept, Backs, is_dirty, Holds, made_file, written_file, synced_file, gone_file, KeepsOrAdds}
+use Rattle.pos_edge.specs.Histories.{Cache, cache_of, no_file, act_of, event_of, open_of, IsKeptFile, IsKept, Backs, is_dirty, HoldsTogether, made_file, written_file, synced_file, gone_file, KeepsOrAdds}
 use Rattle.pos_edge.proofs.Events.{happened-other, happened-own, state_of-beside, state_of-own}
 use Rattle.pos_edge.proofs.ScratchFiles.{cases_name}
 use Rattle.pos_edge.proofs.MemoryFrames.{bytes_of-with_write}
@@ -199,18 +199,18 @@ pub count-set : {X : Type 0} (p : X → Bool) (xs : List X) (i : ℕ) (x d : X) 
 count-set p xs i x d h = sum_by-set (λ y. cond (p y) 1 0) xs i x d h
 
 -- the names and files with one that may be new
-pub Holds-names : (n : List ℕ) (names : List (String Global)) (files : List MemoryFile) (new_names : List (String Global)) (new_files : List MemoryFile) (entries : List Entry) (handles : List Handle) (cap : ℕ)
-    → KeepsOrAdds n names files new_names new_files → Holds (map string_bytes names) (map cache_of files) entries handles cap
-    → Holds (map string_bytes new_names) (map cache_of new_files) entries handles cap × (map (event_of (map string_bytes new_names)) entries ≡ map (event_of (map string_bytes names)) entries) × (map (open_of (map string_bytes new_names)) handles ≡ map (open_of (map string_bytes names)) handles)
-Holds-names n names files new_names new_files entries handles cap (inl same) h = (
-  subst (λ x. Holds (map string_bytes x) (map cache_of new_files) entries handles cap) (sym same.0) (subst (λ x. Holds (map string_bytes names) (map cache_of x) entries handles cap) (sym same.1) h),
+pub HoldsTogether-names : (n : List ℕ) (names : List (String Global)) (files : List MemoryFile) (new_names : List (String Global)) (new_files : List MemoryFile) (entries : List Entry) (handles : List Handle) (cap : ℕ)
+    → KeepsOrAdds n names files new_names new_files → HoldsTogether (map string_bytes names) (map cache_of files) entries handles cap
+    → HoldsTogether (map string_bytes new_names) (map cache_of new_files) entries handles cap × (map (event_of (map string_bytes new_names)) entries ≡ map (event_of (map string_bytes names)) entries) × (map (open_of (map string_bytes new_names)) handles ≡ map (open_of (map string_bytes names)) handles)
+HoldsTogether-names n names files new_names new_files entries handles cap (inl same) h = (
+  subst (λ x. HoldsTogether (map string_bytes x) (map cache_of new_files) entries handles cap) (sym same.0) (subst (λ x. HoldsTogether (map string_bytes names) (map cache_of x) entries handles cap) (sym same.1) h),
   ap (λ x. map (event_of (map string_bytes x)) entries) same.0,
   ap (λ x. map (open_of (map string_bytes x)) handles) same.0,
 )
-Holds-names n names files new_names new_files entries handles cap (inr more) h =
+HoldsTogether-names n names files new_names new_files entries handles cap (inr more) h =
     let es = events_more (map string_bytes names) n entries h.entries_in in
     let os = opens_more (map string_bytes names) n handles h.handles_in in (
-      subst (λ x. Holds x (map cache_of new_files) entries handles cap) (sym more.1) (subst (λ x. Holds (map string_bytes names ++ n ∷ []) x entries handles cap) (sym more.2) (record {
+      subst (λ x. HoldsTogether x (map cache_of new_files) entries handles cap) (sym more.1) (subst (λ x. HoldsTogether (map string_bytes names ++ n ∷ []) x entries handles cap) (sym more.2) (record {
         backs = subst (λ l. Backs (map string_bytes names ++ n ∷ []) (map cache_of files ++ no_file ∷ []) l) (sym es) (Backs-add (map string_bytes names) (map cache_of files) (map (event_of (map string_bytes names)) entries) n h.backs (λ i hi. more.0 i (omega (arith, hi, length-map names string_bytes))));
         entries_in = All-weaker (λ entry. entry.slot < length (map string_bytes names)) (λ entry. entry.slot < length (map string_bytes names ++ n ∷ [])) (λ entry x. rw length_push (omega (arith, x))) entries h.entries_in;
         handles_in = All-weaker (λ handle. handle.slot < length (map string_bytes names)) (λ handle. handle.slot < length (map string_bytes names ++ n ∷ [])) (λ handle x. rw length_push (omega (arith, x))) handles h.handles_in;

@@ -6,14 +6,14 @@ use Rattle.std.proofs.lemmas.List.{length_push}
 use Rattle.std.proofs.lemmas.List.Sums.{count_by-le-length}
 use Rattle.std.proofs.lemmas.List.Elements.{All-push, All-set, All-weaker}
 use Rattle.std.proofs.lemmas.Option.{same_Some}
-use Rattle.pos_edge.specs.declared.history.Deed.{Deed}
-use Rattle.pos_edge.specs.declared.history.Deed.TheVariants.{Made, Synced, Gone}
-use Rattle.pos_edge.specs.declared.history.Entry.{Entry}
-use Rattle.pos_edge.specs.declared.history.Handle.{Handle}
+use Rattle.pos_edge.specs.declared.doubles.history.Deed.{Deed}
+use Rattle.pos_edge.specs.declared.doubles.history.Deed.TheVariants.{Made, Synced, Gone}
+use Rattle.pos_edge.specs.declared.doubles.history.Entry.{Entry}
+use Rattle.pos_edge.specs.declared.doubles.history.Handle.{Handle}
 use Rattle.pos_edge.specs.Images.{written}
 use Rattle.pos_edge.specs.Log.{Act, Making, Writing, Syncing, Removing, Event, NameState, state_of, contents_of, bytes_of, acted}
 use Rattle.pos_edge.specs.MemoryDisks.{OpenFile, IsSoundFile, holds, is_there, CanUse}
-use Rattle.pos_edge.specs.Histories.{Cache, no_file, act_of, event_of, open_of, IsKept, Backs, is_live, is_dirty, Holds, made_file, written_file, synced_file, gone_file}
+use Rattle.pos_edge.specs.Histories.{Cache, no_file, act_of, event_of, open_of, IsKept, Backs, is_live, is_dirty, HoldsTogether, made_file, written_file, synced_file, gone_file}
 use Rattle.pos_edge.specs.MemoryLaws.{holds_bytes}
 use Rattle.pos_edge.proofs.Events.{acted_removals, state_of-own, state_of-beside}
 use Rattle.pos_edge.proofs.ScratchFiles.{cases_name}
@@ -52,7 +52,7 @@ keeps-removing s e size held = absurd (omega (arith, e))
 abbrev bit : Bool → ℕ
 bit b = cond b 1 0
 
-module _ (names : List (List ℕ)) (files : List Cache) (entries : List Entry) (handles : List Handle) (cap : ℕ) (h : Holds names files entries handles cap) where
+module _ (names : List (List ℕ)) (files : List Cache) (entries : List Entry) (handles : List Handle) (cap : ℕ) (h : HoldsTogether names files entries handles cap) where
   pub events-push : (i : ℕ) (deed : Deed) → map (event_of names) (entries ++ record { slot = i; deed = deed } ∷ []) ≡ map (event_of names) entries ++ record { name = get_or names i []; act = act_of deed } ∷ []
   events-push i deed = map-push (event_of names) entries (record { slot = i; deed = deed })
 
@@ -60,14 +60,14 @@ module _ (names : List (List ℕ)) (files : List Cache) (entries : List Entry) (
   kept_at i hi = h.backs.kept i hi
 
   -- one act, with the FileIds as they then are
-  pub Holds-act : (i : ℕ) (deed : Deed) (c : Cache) (new_handles : List Handle) (new_cap : ℕ) → i < length names
+  pub HoldsTogether-act : (i : ℕ) (deed : Deed) (c : Cache) (new_handles : List Handle) (new_cap : ℕ) → i < length names
       → IsKept (acted (act_of deed) (state_of (get_or names i []) (map (event_of names) entries))) c
       → KeepsBytes (act_of deed) (state_of (get_or names i []) (map (event_of names) entries))
       → All (λ handle. handle.slot < length names) new_handles
       → (All (IsSoundFile (map (event_of names) entries ++ record { name = get_or names i []; act = act_of deed } ∷ [])) (map (open_of names) handles) → All (IsSoundFile (map (event_of names) entries ++ record { name = get_or names i []; act = act_of deed } ∷ [])) (map (open_of names) new_handles))
       → length entries + 1 + (count_by is_live new_handles + count_by is_dirty (set files i c)) ≤ new_cap
-      → Holds names (set files i c) (entries ++ record { slot = i; deed = deed } ∷ []) new_handles new_cap
-  Holds-act i deed c new_handles new_cap hi kept keeps inside sound room = record {
+      → HoldsTogether names (set files i c) (entries ++ record { slot = i; deed = deed } ∷ []) new_handles new_cap
+  HoldsTogether-act i deed c new_handles new_cap hi kept keeps inside sound room = record {
     backs = subst (λ l. Backs names (set files i c) l) (sym (events-push i deed)) (Backs-act names files (map (event_of names) entries) i (act_of deed) c h.backs hi kept);
     entries_in = All-push (λ entry. entry.slot < length names) entries (record { slot = i; deed = deed }) h.entries_in hi;
     handles_in = inside;
@@ -77,12 +77,12 @@ module _ (names : List (List ℕ)) (files : List Cache) (entries : List Entry) (
   }
 
   -- other FileIds, and no event
-  pub Holds-handles : (new_handles : List Handle) (new_cap : ℕ) → All (λ handle. handle.slot < length names) new_handles → All (IsSoundFile (map (event_of names) entries)) (map (open_of names) new_handles)
-      → length entries + (count_by is_live new_handles + count_by is_dirty files) ≤ new_cap → Holds names files entries new_handles new_cap
-  Holds-handles new_handles new_cap inside sound room = record { backs = h.backs; entries_in = h.entries_in; handles_in = inside; sound = sound; room = room }
+  pub HoldsTogether-handles : (new_handles : List Handle) (new_cap : ℕ) → All (λ handle. handle.slot < length names) new_handles → All (IsSoundFile (map (event_of names) entries)) (map (open_of names) new_handles)
+      → length entries + (count_by is_live new_handles + count_by is_dirty files) ≤ new_cap → HoldsTogether names files entries new_handles new_cap
+  HoldsTogether-handles new_handles new_cap inside sound room = record { backs = h.backs; entries_in = h.entries_in; handles_in = inside; sound = sound; room = room }
 
-  pub Holds-room : (new_cap : ℕ) → cap ≤ new_cap → Holds names files entries handles new_cap
-  Holds-room new_cap more = Holds-handles handles new_cap h.handles_in h.sound (let r = h.room in omega arith)
+  pub HoldsTogether-room : (new_cap : ℕ) → cap ≤ new_cap → HoldsTogether names files entries handles new_cap
+  HoldsTogether-room new_cap more = HoldsTogether-handles handles new_cap h.handles_in h.sound (let r = h.room in omega arith)
 
   counts : (count_by is_live handles ≤ length handles) × (count_by is_dirty files ≤ length files)
   counts = (count_by-le-length is_live handles, count_by-le-length is_dirty files)
@@ -101,29 +101,29 @@ module _ (names : List (List ℕ)) (files : List Cache) (entries : List Entry) (
   one_or_none false = omega arith
 
   -- a file is made, and a FileId given for it
-  pub Holds-make : (i : ℕ) (new_cap : ℕ) → i < length names → (get_or files i no_file).there ≡ false → length entries + (length files + length handles + 3) ≤ new_cap
-      → Holds names (set files i (made_file (get_or files i no_file))) (entries ++ record { slot = i; deed = Made } ∷ []) (handles ++ record { live = true; slot = i; removals = (get_or files i no_file).removals; size = 0 } ∷ []) new_cap
-  Holds-make i new_cap hi absent room =
+  pub HoldsTogether-make : (i : ℕ) (new_cap : ℕ) → i < length names → (get_or files i no_file).there ≡ false → length entries + (length files + length handles + 3) ≤ new_cap
+      → HoldsTogether names (set files i (made_file (get_or files i no_file))) (entries ++ record { slot = i; deed = Made } ∷ []) (handles ++ record { live = true; slot = i; removals = (get_or files i no_file).removals; size = 0 } ∷ []) new_cap
+  HoldsTogether-make i new_cap hi absent room =
       let st = state_of (get_or names i []) (map (event_of names) entries) in
       let c = get_or files i no_file in
       let new : Handle = record { live = true; slot = i; removals = c.removals; size = 0 } in
       let now = state_of-own (get_or names i []) (map (event_of names) entries) Making in
       let d = dirty-before i (made_file c) hi in
       let o = one_or_none (is_dirty c) in
-      Holds-act i Made (made_file c) (handles ++ new ∷ []) new_cap hi (IsKept-made st c (kept_at i hi)) (keeps-making st (kept_absent st c (kept_at i hi) absent))
+      HoldsTogether-act i Made (made_file c) (handles ++ new ∷ []) new_cap hi (IsKept-made st c (kept_at i hi)) (keeps-making st (kept_absent st c (kept_at i hi) absent))
       (All-push (λ handle. handle.slot < length names) handles new h.handles_in hi)
       (push_sound (map (event_of names) entries ++ record { name = get_or names i []; act = Making } ∷ []) new
       (omega (arith, ap (λ (s : NameState). s.removals) now, (kept_at i hi).removals), λ e. ap (λ (s : NameState). holds 0 (option_map bytes_of s.file)) now))
       (omega (arith, counts.0, counts.1, count-push is_live handles new, d, room))
 
   -- a FileId is given for a file that is there
-  pub Holds-open : (i : ℕ) (new_cap : ℕ) → i < length names → (get_or files i no_file).there ≡ true → length entries + (length files + length handles + 3) ≤ new_cap
-      → Holds names files entries (handles ++ record { live = true; slot = i; removals = (get_or files i no_file).removals; size = length (get_or files i no_file).bytes } ∷ []) new_cap
-  Holds-open i new_cap hi there room =
+  pub HoldsTogether-open : (i : ℕ) (new_cap : ℕ) → i < length names → (get_or files i no_file).there ≡ true → length entries + (length files + length handles + 3) ≤ new_cap
+      → HoldsTogether names files entries (handles ++ record { live = true; slot = i; removals = (get_or files i no_file).removals; size = length (get_or files i no_file).bytes } ∷ []) new_cap
+  HoldsTogether-open i new_cap hi there room =
       let st = state_of (get_or names i []) (map (event_of names) entries) in
       let c = get_or files i no_file in
       let new : Handle = record { live = true; slot = i; removals = c.removals; size = length c.bytes } in
-      Holds-handles (handles ++ new ∷ []) new_cap (All-push (λ handle. handle.slot < length names) handles new h.handles_in hi)
+      HoldsTogether-handles (handles ++ new ∷ []) new_cap (All-push (λ handle. handle.slot < length names) handles new h.handles_in hi)
       (push_sound (map (event_of names) entries) new (omega (arith, (kept_at i hi).removals), λ e. ap (holds (length c.bytes)) (kept_there st c (kept_at i hi) there) ∙ le-leb (length c.bytes) (length c.bytes) (omega arith)) h.sound)
       (omega (arith, counts.0, counts.1, count-push is_live handles new, room))
 
@@ -159,11 +159,11 @@ module _ (names : List (List ℕ)) (files : List Cache) (entries : List Entry) (
       }
 
   -- a write
-  pub Holds-write : (id at : ℕ) (piece : Deed) (bytes : List ℕ) (file : OpenFile) (handle : Handle) (new_cap : ℕ) → IsUsed id file handle → handle ≡ get_or handles id handle → at ≤ handle.size → act_of piece ≡ Writing at bytes
+  pub HoldsTogether-write : (id at : ℕ) (piece : Deed) (bytes : List ℕ) (file : OpenFile) (handle : Handle) (new_cap : ℕ) → IsUsed id file handle → handle ≡ get_or handles id handle → at ≤ handle.size → act_of piece ≡ Writing at bytes
       → length entries + (length files + length handles + 3) ≤ new_cap
-      → Holds names (set files handle.slot (written_file at bytes (get_or files handle.slot no_file))) (entries ++ record { slot = handle.slot; deed = piece } ∷ [])
+      → HoldsTogether names (set files handle.slot (written_file at bytes (get_or files handle.slot no_file))) (entries ++ record { slot = handle.slot; deed = piece } ∷ [])
       (set handles id (record { live = handle.live; slot = handle.slot; removals = handle.removals; size = max handle.size (at + length bytes) })) new_cap
-  Holds-write id at piece bytes file handle new_cap u read within is room =
+  HoldsTogether-write id at piece bytes file handle new_cap u read within is room =
       let name = get_or names handle.slot [] in
       let st = state_of name (map (event_of names) entries) in
       let c = get_or files handle.slot no_file in
@@ -180,7 +180,7 @@ module _ (names : List (List ℕ)) (files : List Cache) (entries : List Entry) (
       let b = holds_bytes size (option_map bytes_of st.file) held in
       let same : b.0 ≡ c.bytes = same_Some b.0 c.bytes (sym b.1 ∙ u.contents) in
       ap (holds size) after ∙ le-leb size (length (written at bytes c.bytes)) (omega (arith, b.2, ap length same, l)) in
-      Holds-act handle.slot piece (written_file at bytes c) (set handles id new) new_cap u.slot_in
+      HoldsTogether-act handle.slot piece (written_file at bytes c) (set handles id new) new_cap u.slot_in
       (subst (λ a. IsKept (acted a st) (written_file at bytes c)) (sym is) kept)
       (subst (λ a. KeepsBytes a st) (sym is) (keeps-writing at bytes st longer))
       (All-set (λ x. x.slot < length names) handles id new u.slot_in h.handles_in)
@@ -193,9 +193,9 @@ module _ (names : List (List ℕ)) (files : List Cache) (entries : List Entry) (
       (omega (arith, counts.0, counts.1, live, was, now, d, o, room))
 
   -- a sync of a file that needs one takes the room that was made for it
-  pub Holds-sync : (id : ℕ) (file : OpenFile) (handle : Handle) → IsUsed id file handle → (get_or files handle.slot no_file).clean ≡ false
-      → (length entries < cap) × Holds names (set files handle.slot (synced_file (get_or files handle.slot no_file))) (entries ++ record { slot = handle.slot; deed = Synced } ∷ []) handles cap
-  Holds-sync id file handle u dirty =
+  pub HoldsTogether-sync : (id : ℕ) (file : OpenFile) (handle : Handle) → IsUsed id file handle → (get_or files handle.slot no_file).clean ≡ false
+      → (length entries < cap) × HoldsTogether names (set files handle.slot (synced_file (get_or files handle.slot no_file))) (entries ++ record { slot = handle.slot; deed = Synced } ∷ []) handles cap
+  HoldsTogether-sync id file handle u dirty =
       let name = get_or names handle.slot [] in
       let st = state_of name (map (event_of names) entries) in
       let c = get_or files handle.slot no_file in
@@ -205,23 +205,23 @@ module _ (names : List (List ℕ)) (files : List Cache) (entries : List Entry) (
       let kept : IsKept (acted Syncing st) (synced_file c) = IsKept-synced st c u.there (kept_at handle.slot u.slot_in) in
       let after : option_map bytes_of (acted Syncing st).file ≡ Some c.bytes = kept_there (acted Syncing st) (synced_file c) kept u.there in (
         omega (arith, h.room, d, was, now),
-        Holds-act handle.slot Synced (synced_file c) handles cap u.slot_in kept (λ e size held. ap (holds size) (after ∙ sym u.contents) ∙ held) h.handles_in (λ s. s) (omega (arith, h.room, d, was, now)),
+        HoldsTogether-act handle.slot Synced (synced_file c) handles cap u.slot_in kept (λ e size held. ap (holds size) (after ∙ sym u.contents) ∙ held) h.handles_in (λ s. s) (omega (arith, h.room, d, was, now)),
       )
 
   -- the end of a FileId
-  pub Holds-end : (id : ℕ) (file : OpenFile) (handle : Handle) → IsUsed id file handle → handle ≡ get_or handles id handle
-      → Holds names files entries (set handles id (record { live = false; slot = handle.slot; removals = handle.removals; size = handle.size })) cap
-  Holds-end id file handle u read =
+  pub HoldsTogether-end : (id : ℕ) (file : OpenFile) (handle : Handle) → IsUsed id file handle → handle ≡ get_or handles id handle
+      → HoldsTogether names files entries (set handles id (record { live = false; slot = handle.slot; removals = handle.removals; size = handle.size })) cap
+  HoldsTogether-end id file handle u read =
       let new : Handle = record { live = false; slot = handle.slot; removals = handle.removals; size = handle.size } in
       let live = count-set is_live handles id new handle u.id_in in
-      Holds-handles (set handles id new) cap (All-set (λ x. x.slot < length names) handles id new u.slot_in h.handles_in)
+      HoldsTogether-handles (set handles id new) cap (All-set (λ x. x.slot < length names) handles id new u.slot_in h.handles_in)
       (set_sound (map (event_of names) entries) id new (omega (arith, u.removals), λ e. ap (holds handle.size) u.contents ∙ le-leb handle.size (length (get_or files handle.slot no_file).bytes) u.size) h.sound)
       (omega (arith, live, h.room))
 
   -- a removal takes the room that was made for it
-  pub Holds-remove : (id : ℕ) (file : OpenFile) (handle : Handle) → IsUsed id file handle → handle ≡ get_or handles id handle
-      → (length entries < cap) × Holds names (set files handle.slot (gone_file (get_or files handle.slot no_file))) (entries ++ record { slot = handle.slot; deed = Gone } ∷ []) (set handles id (record { live = false; slot = handle.slot; removals = handle.removals; size = handle.size })) cap
-  Holds-remove id file handle u read =
+  pub HoldsTogether-remove : (id : ℕ) (file : OpenFile) (handle : Handle) → IsUsed id file handle → handle ≡ get_or handles id handle
+      → (length entries < cap) × HoldsTogether names (set files handle.slot (gone_file (get_or files handle.slot no_file))) (entries ++ record { slot = handle.slot; deed = Gone } ∷ []) (set handles id (record { live = false; slot = handle.slot; removals = handle.removals; size = handle.size })) cap
+  HoldsTogether-remove id file handle u read =
       let name = get_or names handle.slot [] in
       let st = state_of name (map (event_of names) entries) in
       let c = get_or files handle.slot no_file in
@@ -230,7 +230,7 @@ module _ (names : List (List ℕ)) (files : List Cache) (entries : List Entry) (
       let was : bit (is_live (get_or handles id handle)) ≡ 1 = ap (λ (x : Handle). bit x.live) (sym read) ∙ ap bit u.live in
       let d = dirty-before handle.slot (gone_file c) u.slot_in in (
         omega (arith, h.room, live, was),
-        Holds-act handle.slot Gone (gone_file c) (set handles id new) cap u.slot_in (IsKept-gone st c (kept_at handle.slot u.slot_in)) (keeps-removing st)
+        HoldsTogether-act handle.slot Gone (gone_file c) (set handles id new) cap u.slot_in (IsKept-gone st c (kept_at handle.slot u.slot_in)) (keeps-removing st)
             (All-set (λ x. x.slot < length names) handles id new u.slot_in h.handles_in)
             (set_sound (map (event_of names) entries ++ record { name = name; act = Removing } ∷ []) id new (
               let now' = ap (λ (s : NameState). s.removals) (state_of-own name (map (event_of names) entries) Removing) in omega (arith, now', u.removals),

@@ -4,16 +4,16 @@ use Rattle.std.specs.Prelude.{OnErr}
 use Rattle.std.specs.declared.string.String.{String}
 use Rattle.std.specs.declared.alloc.Global.{Global}
 use Rattle.std.proofs.lemmas.List.{length-map, get_or_default, set-get_or}
-use Rattle.pos_edge.specs.declared.history.Deed.{Deed}
-use Rattle.pos_edge.specs.declared.history.Deed.TheVariants.{Made, Synced, Gone}
-use Rattle.pos_edge.specs.declared.history.Entry.{Entry}
-use Rattle.pos_edge.specs.declared.history.Handle.{Handle}
-use Rattle.pos_edge.specs.declared.history.MemoryFile.{MemoryFile}
+use Rattle.pos_edge.specs.declared.doubles.history.Deed.{Deed}
+use Rattle.pos_edge.specs.declared.doubles.history.Deed.TheVariants.{Made, Synced, Gone}
+use Rattle.pos_edge.specs.declared.doubles.history.Entry.{Entry}
+use Rattle.pos_edge.specs.declared.doubles.history.Handle.{Handle}
+use Rattle.pos_edge.specs.declared.doubles.history.MemoryFile.{MemoryFile}
 use Rattle.pos_edge.specs.Log.{Making, Writing, Removing, state_of, contents_of}
 use Rattle.pos_edge.specs.MemoryDisks.{OpenFile, HistoryState, CanUse, opened, grown, ended, noted_in, given_in, replaced_in, synced_in, is_clean_name}
-use Rattle.pos_edge.specs.Histories.{Cache, cache_of, no_file, act_of, event_of, open_of, Holds, made_file, written_file, synced_file, gone_file, KeepsOrAdds}
-use Rattle.pos_edge.proofs.Kept.{map_read, map-set_at, same_history, Holds-names, removals_le}
-use Rattle.pos_edge.proofs.KeptActs.{IsUsed, Holds-make, Holds-open, Holds-room, Holds-write, Holds-sync, Holds-end, Holds-remove, used}
+use Rattle.pos_edge.specs.Histories.{Cache, cache_of, no_file, act_of, event_of, open_of, HoldsTogether, made_file, written_file, synced_file, gone_file, KeepsOrAdds}
+use Rattle.pos_edge.proofs.Kept.{map_read, map-set_at, same_history, HoldsTogether-names, removals_le}
+use Rattle.pos_edge.proofs.KeptActs.{IsUsed, HoldsTogether-make, HoldsTogether-open, HoldsTogether-room, HoldsTogether-write, HoldsTogether-sync, HoldsTogether-end, HoldsTogether-remove, used}
 use Rattle.pos_edge.proofs.KeptResults.{slot_there, slot_absent, no_slot, slot_removals, made_is, opened_is, written_is, ended_is, removed_is, synced_is, unsynced_is, clean_name}
 
 -- the parts, and the history that they stand for
@@ -21,13 +21,13 @@ abbrev pub stands_for : List (String Global) → List Entry → List Handle → 
 stands_for names entries handles = record { log = map (event_of (map string_bytes names)) entries; open_files = map (open_of (map string_bytes names)) handles }
 
 abbrev pub HoldsParts : List (String Global) → List MemoryFile → List Entry → List Handle → ℕ → Type 0
-HoldsParts names files entries handles cap = Holds (map string_bytes names) (map cache_of files) entries handles cap
+HoldsParts names files entries handles cap = HoldsTogether (map string_bytes names) (map cache_of files) entries handles cap
 
 -- equal parts hold as well
 pub parts_moved : (names : List (String Global)) (files : List MemoryFile) (entries new_entries : List Entry) (handles new_handles : List Handle) (cap new_cap : ℕ)
     → new_entries ≡ entries → new_handles ≡ handles → cap ≤ new_cap → HoldsParts names files entries handles cap → HoldsParts names files new_entries new_handles new_cap
 parts_moved names files entries new_entries handles new_handles cap new_cap e f more h =
-    subst (λ x. HoldsParts names files x new_handles new_cap) (sym e) (subst (λ x. HoldsParts names files entries x new_cap) (sym f) (Holds-room (map string_bytes names) (map cache_of files) entries handles cap h new_cap more))
+    subst (λ x. HoldsParts names files x new_handles new_cap) (sym e) (subst (λ x. HoldsParts names files entries x new_cap) (sym f) (HoldsTogether-room (map string_bytes names) (map cache_of files) entries handles cap h new_cap more))
 
 pub parts_same : (h₀ : HistoryState) (names : List (String Global)) (entries new_entries : List Entry) (handles new_handles : List Handle)
     → new_entries ≡ entries → new_handles ≡ handles → stands_for names entries handles ≡ h₀ → stands_for names new_entries new_handles ≡ h₀
@@ -37,12 +37,12 @@ parts_same h₀ names entries new_entries handles new_handles e f is =
 -- after the names
 pub named_holds : (n : List ℕ) (names₀ names : List (String Global)) (files₀ files : List MemoryFile) (entries : List Entry) (handles : List Handle) (cap : ℕ)
     → KeepsOrAdds n names₀ files₀ names files → HoldsParts names₀ files₀ entries handles cap → HoldsParts names files entries handles cap
-named_holds n names₀ names files₀ files entries handles cap kept h = (Holds-names n names₀ files₀ names files entries handles cap kept h).0
+named_holds n names₀ names files₀ files entries handles cap kept h = (HoldsTogether-names n names₀ files₀ names files entries handles cap kept h).0
 
 pub named_same : (h₀ : HistoryState) (n : List ℕ) (names₀ names : List (String Global)) (files₀ files : List MemoryFile) (entries : List Entry) (handles : List Handle) (cap : ℕ)
     → KeepsOrAdds n names₀ files₀ names files → HoldsParts names₀ files₀ entries handles cap → stands_for names₀ entries handles ≡ h₀ → stands_for names entries handles ≡ h₀
 named_same h₀ n names₀ names files₀ files entries handles cap kept h is =
-    let k = Holds-names n names₀ files₀ names files entries handles cap kept h in same_history _ _ _ _ k.1 k.2 ∙ is
+    let k = HoldsTogether-names n names₀ files₀ names files entries handles cap kept h in same_history _ _ _ _ k.1 k.2 ∙ is
 
 -- Parts that hold and stand for a history, with a file that was read at a place.
 module _ (h₀ : HistoryState) (names : List (String Global)) (files : List MemoryFile) (entries : List Entry) (handles : List Handle) (cap : ℕ)
@@ -80,9 +80,6 @@ module _ (h₀ : HistoryState) (names : List (String Global)) (files : List Memo
   pub given_place : length handles ≡ length h₀.open_files
   given_place = sym (length-map handles (open_of (map string_bytes names))) ∙ ap (λ (x : HistoryState). length x.open_files) is
 
-  room_is : ℕ → Type 0
-  room_is new_cap = length entries + (length files + length handles + 3) ≤ new_cap
-
   room_for : (new_cap : ℕ) → length entries + (length files + length handles + 3) ≤ new_cap → length entries + (length (map cache_of files) + length handles + 3) ≤ new_cap
   room_for new_cap room = omega (arith, room, length-map files cache_of)
 
@@ -93,11 +90,11 @@ module _ (h₀ : HistoryState) (names : List (String Global)) (files : List Memo
   make_holds slot n file new new_entries new_handles new_cap within read absent made e f room =
       let at = cache_at slot file within read in
       let there : (get_or (map cache_of files) slot no_file).there ≡ false = ap (λ (x : Cache). x.there) at ∙ absent in
-      let m = Holds-make (map string_bytes names) (map cache_of files) entries handles cap h slot new_cap (slot_in slot within) there (room_for new_cap room) in
+      let m = HoldsTogether-make (map string_bytes names) (map cache_of files) entries handles cap h slot new_cap (slot_in slot within) there (room_for new_cap room) in
       let cache : set (map cache_of files) slot (made_file (get_or (map cache_of files) slot no_file)) ≡ map cache_of (set files slot new) = ap (λ x. set (map cache_of files) slot (made_file x)) at ∙ (ap (set (map cache_of files) slot) (sym made) ∙ sym (map-set_at cache_of files slot new)) in
-      subst (λ x. Holds (map string_bytes names) x new_entries new_handles new_cap) cache
-      (subst (λ x. Holds (map string_bytes names) (set (map cache_of files) slot (made_file (get_or (map cache_of files) slot no_file))) x new_handles new_cap) (sym e)
-      (subst (λ x. Holds (map string_bytes names) (set (map cache_of files) slot (made_file (get_or (map cache_of files) slot no_file))) (entries ++ record { slot = slot; deed = Made } ∷ []) x new_cap)
+      subst (λ x. HoldsTogether (map string_bytes names) x new_entries new_handles new_cap) cache
+      (subst (λ x. HoldsTogether (map string_bytes names) (set (map cache_of files) slot (made_file (get_or (map cache_of files) slot no_file))) x new_handles new_cap) (sym e)
+      (subst (λ x. HoldsTogether (map string_bytes names) (set (map cache_of files) slot (made_file (get_or (map cache_of files) slot no_file))) (entries ++ record { slot = slot; deed = Made } ∷ []) x new_cap)
       (ap (λ (c : Cache). handles ++ record { live = true; slot = slot; removals = c.removals; size = 0 } ∷ []) at ∙ sym f) m))
 
   pub make_same : (slot : ℕ) (n : List ℕ) (file : MemoryFile) (new_entries : List Entry) (new_handles : List Handle) → slot < length names → get_or (map string_bytes names) slot [] ≡ n → file ≡ get_or files slot file
@@ -115,7 +112,7 @@ module _ (h₀ : HistoryState) (names : List (String Global)) (files : List Memo
   open_holds slot file new_entries new_handles new_cap within read is_there e f room =
       let at = cache_at slot file within read in
       let there : (get_or (map cache_of files) slot no_file).there ≡ true = ap (λ (x : Cache). x.there) at ∙ is_there in
-      let m = Holds-open (map string_bytes names) (map cache_of files) entries handles cap h slot new_cap (slot_in slot within) there (room_for new_cap room) in
+      let m = HoldsTogether-open (map string_bytes names) (map cache_of files) entries handles cap h slot new_cap (slot_in slot within) there (room_for new_cap room) in
       subst (λ x. HoldsParts names files x new_handles new_cap) (sym e)
       (subst (λ x. HoldsParts names files entries x new_cap) (ap (λ (c : Cache). handles ++ record { live = true; slot = slot; removals = c.removals; size = length c.bytes } ∷ []) at ∙ sym f) m)
 
@@ -135,7 +132,7 @@ module _ (h₀ : HistoryState) (names : List (String Global)) (files : List Memo
   file_size id file handle u = ap (λ (o : OpenFile). o.size) u.file_is
 
   pub end_holds : (id : ℕ) (file : OpenFile) (handle : Handle) → IsUsed (map string_bytes names) (map cache_of files) entries handles cap h id file handle → handle ≡ get_or handles id handle → HoldsParts names files entries (set handles id (record { live = false; slot = handle.slot; removals = handle.removals; size = handle.size })) cap
-  end_holds id file handle u got = Holds-end (map string_bytes names) (map cache_of files) entries handles cap h id file handle u got
+  end_holds id file handle u got = HoldsTogether-end (map string_bytes names) (map cache_of files) entries handles cap h id file handle u got
 
   pub end_same : (id : ℕ) (file : OpenFile) (handle : Handle) → IsUsed (map string_bytes names) (map cache_of files) entries handles cap h id file handle → stands_for names entries (set handles id (record { live = false; slot = handle.slot; removals = handle.removals; size = handle.size })) ≡ replaced_in id (ended file) h₀
   end_same id file handle u = ended_is (map string_bytes names) (map cache_of files) entries handles cap h id file handle u.file_is ∙ ap (replaced_in id (ended file)) is
@@ -167,10 +164,10 @@ module _ (h₀ : HistoryState) (names : List (String Global)) (files : List Memo
         → cache_of new ≡ written_file at piece (cache_of kept) → new_entries ≡ entries ++ record { slot = handle.slot; deed = deed } ∷ [] → length entries + (length files + length handles + 3) ≤ new_cap
         → HoldsParts names (set files handle.slot new) new_entries (set handles id (record { live = handle.live; slot = handle.slot; removals = handle.removals; size = max handle.size (at + length piece) })) new_cap
     write_holds at deed piece new new_entries new_cap got within act made e room =
-        let m = Holds-write (map string_bytes names) (map cache_of files) entries handles cap h id at deed piece file handle new_cap u got within act (room_for new_cap room) in
+        let m = HoldsTogether-write (map string_bytes names) (map cache_of files) entries handles cap h id at deed piece file handle new_cap u got within act (room_for new_cap room) in
         let hs = set handles id (record { live = handle.live; slot = handle.slot; removals = handle.removals; size = max handle.size (at + length piece) }) in
-        subst (λ x. Holds (map string_bytes names) x new_entries hs new_cap) (files_set new (written_file at piece (get_or (map cache_of files) handle.slot no_file)) (made ∙ ap (written_file at piece) (sym at_slot)))
-        (subst (λ x. Holds (map string_bytes names) (set (map cache_of files) handle.slot (written_file at piece (get_or (map cache_of files) handle.slot no_file))) x hs new_cap) (sym e) m)
+        subst (λ x. HoldsTogether (map string_bytes names) x new_entries hs new_cap) (files_set new (written_file at piece (get_or (map cache_of files) handle.slot no_file)) (made ∙ ap (written_file at piece) (sym at_slot)))
+        (subst (λ x. HoldsTogether (map string_bytes names) (set (map cache_of files) handle.slot (written_file at piece (get_or (map cache_of files) handle.slot no_file))) x hs new_cap) (sym e) m)
 
     pub write_same : (at : ℕ) (deed : Deed) (piece : List ℕ) (new_entries : List Entry) → act_of deed ≡ Writing at piece → new_entries ≡ entries ++ record { slot = handle.slot; deed = deed } ∷ []
         → stands_for names new_entries (set handles id (record { live = handle.live; slot = handle.slot; removals = handle.removals; size = max handle.size (at + length piece) })) ≡ replaced_in id (grown (at + length piece) file) (noted_in file.name (Writing at piece) h₀)
@@ -180,14 +177,14 @@ module _ (h₀ : HistoryState) (names : List (String Global)) (files : List Memo
         (written_is (map string_bytes names) (map cache_of files) entries handles cap h id at deed piece file handle u.file_is act ∙ ap (λ (x : HistoryState). replaced_in id (grown (at + length piece) file) (noted_in file.name (Writing at piece) x)) is)
 
     pub sync_room : kept.clean ≡ false → length entries < cap
-    sync_room dirty = (Holds-sync (map string_bytes names) (map cache_of files) entries handles cap h id file handle u (ap (λ (c : Cache). c.clean) at_slot ∙ dirty)).0
+    sync_room dirty = (HoldsTogether-sync (map string_bytes names) (map cache_of files) entries handles cap h id file handle u (ap (λ (c : Cache). c.clean) at_slot ∙ dirty)).0
 
     pub sync_holds : (new : MemoryFile) (new_entries : List Entry) (new_cap : ℕ) → kept.clean ≡ false → cache_of new ≡ synced_file (cache_of kept) → new_entries ≡ entries ++ record { slot = handle.slot; deed = Synced } ∷ [] → cap ≤ new_cap
         → HoldsParts names (set files handle.slot new) new_entries handles new_cap
     sync_holds new new_entries new_cap dirty made e more =
-        let m = (Holds-sync (map string_bytes names) (map cache_of files) entries handles cap h id file handle u (ap (λ (c : Cache). c.clean) at_slot ∙ dirty)).1 in
+        let m = (HoldsTogether-sync (map string_bytes names) (map cache_of files) entries handles cap h id file handle u (ap (λ (c : Cache). c.clean) at_slot ∙ dirty)).1 in
         parts_moved names (set files handle.slot new) (entries ++ record { slot = handle.slot; deed = Synced } ∷ []) new_entries handles handles cap new_cap e refl more
-        (subst (λ x. Holds (map string_bytes names) x (entries ++ record { slot = handle.slot; deed = Synced } ∷ []) handles cap) (files_set new (synced_file (get_or (map cache_of files) handle.slot no_file)) (made ∙ ap synced_file (sym at_slot))) m)
+        (subst (λ x. HoldsTogether (map string_bytes names) x (entries ++ record { slot = handle.slot; deed = Synced } ∷ []) handles cap) (files_set new (synced_file (get_or (map cache_of files) handle.slot no_file)) (made ∙ ap synced_file (sym at_slot))) m)
 
     clean_is : is_clean_name (get_or (map string_bytes names) handle.slot []) (map (event_of (map string_bytes names)) entries) ≡ kept.clean
     clean_is = clean_name (map string_bytes names) (map cache_of files) entries handles cap h handle.slot u.slot_in u.there ∙ ap (λ (c : Cache). c.clean) at_slot
@@ -200,15 +197,15 @@ module _ (h₀ : HistoryState) (names : List (String Global)) (files : List Memo
     sync_none clean = sym is ∙ (unsynced_is (map string_bytes names) (map cache_of files) entries handles cap h file handle u.file_is (clean_is ∙ clean) ∙ ap (synced_in file) is)
 
     pub remove_room : handle ≡ get_or handles id handle → length entries < cap
-    remove_room got = (Holds-remove (map string_bytes names) (map cache_of files) entries handles cap h id file handle u got).0
+    remove_room got = (HoldsTogether-remove (map string_bytes names) (map cache_of files) entries handles cap h id file handle u got).0
 
     pub remove_holds : (new : MemoryFile) (new_entries : List Entry) (new_cap : ℕ) → handle ≡ get_or handles id handle → cache_of new ≡ gone_file (cache_of kept) → new_entries ≡ entries ++ record { slot = handle.slot; deed = Gone } ∷ [] → cap ≤ new_cap
         → HoldsParts names (set files handle.slot new) new_entries (set handles id (record { live = false; slot = handle.slot; removals = handle.removals; size = handle.size })) new_cap
     remove_holds new new_entries new_cap got made e more =
-        let m = (Holds-remove (map string_bytes names) (map cache_of files) entries handles cap h id file handle u got).1 in
+        let m = (HoldsTogether-remove (map string_bytes names) (map cache_of files) entries handles cap h id file handle u got).1 in
         let hs = set handles id (record { live = false; slot = handle.slot; removals = handle.removals; size = handle.size }) in
         parts_moved names (set files handle.slot new) (entries ++ record { slot = handle.slot; deed = Gone } ∷ []) new_entries hs hs cap new_cap e refl more
-        (subst (λ x. Holds (map string_bytes names) x (entries ++ record { slot = handle.slot; deed = Gone } ∷ []) hs cap) (files_set new (gone_file (get_or (map cache_of files) handle.slot no_file)) (made ∙ ap gone_file (sym at_slot))) m)
+        (subst (λ x. HoldsTogether (map string_bytes names) x (entries ++ record { slot = handle.slot; deed = Gone } ∷ []) hs cap) (files_set new (gone_file (get_or (map cache_of files) handle.slot no_file)) (made ∙ ap gone_file (sym at_slot))) m)
 
     pub remove_same : (new_entries : List Entry) → new_entries ≡ entries ++ record { slot = handle.slot; deed = Gone } ∷ []
         → stands_for names new_entries (set handles id (record { live = false; slot = handle.slot; removals = handle.removals; size = handle.size })) ≡ replaced_in id (ended file) (noted_in file.name Removing h₀)
@@ -240,7 +237,7 @@ pub unchanged_holds : (names : List (String Global)) (files : List MemoryFile) (
     → file ≡ get_or files slot file → cache_of new ≡ cache_of file → new_entries ≡ entries → cap ≤ new_cap → HoldsParts names (set files slot new) new_entries handles new_cap
 unchanged_holds names files entries handles cap h slot file new new_entries new_cap read made e more =
     let same : map cache_of (set files slot new) ≡ map cache_of files = map-set_at cache_of files slot new ∙ (ap (set (map cache_of files) slot) (made ∙ cache_again files slot file read) ∙ set-get_or (map cache_of files) slot (cache_of file)) in
-    subst (λ x. Holds (map string_bytes names) x new_entries handles new_cap) (sym same) (parts_moved names files entries new_entries handles handles cap new_cap e refl more h) where
+    subst (λ x. HoldsTogether (map string_bytes names) x new_entries handles new_cap) (sym same) (parts_moved names files entries new_entries handles handles cap new_cap e refl more h) where
       cache_again : (fs : List MemoryFile) (i : ℕ) (f : MemoryFile) → f ≡ get_or fs i f → cache_of f ≡ get_or (map cache_of fs) i (cache_of f)
       cache_again [] i f r = refl
       cache_again (g ∷ fs) zero f r = ap cache_of r

@@ -8,20 +8,20 @@ use Rattle.std.proofs.lemmas.List.{length-set, length-map, length_push, set-set,
 use Rattle.std.proofs.lemmas.List.Sums.{count_by-le-length}
 use Rattle.std.proofs.lemmas.List.Elements.{All-head, All-tail}
 use Rattle.std.proofs.lemmas.Option.{none-some, same_Some}
-use Rattle.pos_edge.specs.declared.history.Deed.{Deed}
-use Rattle.pos_edge.specs.declared.history.Deed.TheVariants.{Made, Synced}
-use Rattle.pos_edge.specs.declared.history.Entry.{Entry}
-use Rattle.pos_edge.specs.declared.history.Handle.{Handle}
-use Rattle.pos_edge.specs.declared.history.MemoryFile.{MemoryFile}
-use Rattle.pos_edge.specs.declared.history.Replay.{Replay}
+use Rattle.pos_edge.specs.declared.doubles.history.Deed.{Deed}
+use Rattle.pos_edge.specs.declared.doubles.history.Deed.TheVariants.{Made, Synced}
+use Rattle.pos_edge.specs.declared.doubles.history.Entry.{Entry}
+use Rattle.pos_edge.specs.declared.doubles.history.Handle.{Handle}
+use Rattle.pos_edge.specs.declared.doubles.history.MemoryFile.{MemoryFile}
+use Rattle.pos_edge.specs.declared.doubles.history.Replay.{Replay}
 use Rattle.pos_edge.specs.Images.{written}
 use Rattle.pos_edge.specs.Log.{Making, Writing, Syncing, File, NameState, state_of, contents_of, bytes_of, written_all, acted, happened, never}
 use Rattle.pos_edge.specs.MemoryDisks.{HistoryState, holds, placed_in, image_after}
-use Rattle.pos_edge.specs.Histories.{Cache, cache_of, no_file, act_of, event_of, IsKept, is_live, is_dirty, Holds, made_file, written_file, synced_file, placed_file, seen_at, IsReplayedFile}
+use Rattle.pos_edge.specs.Histories.{Cache, cache_of, no_file, act_of, event_of, IsKept, is_live, is_dirty, HoldsTogether, made_file, written_file, synced_file, placed_file, seen_at, IsReplayedFile}
 use Rattle.pos_edge.specs.MemoryLaws.{holds_bytes, length-written_ge}
 use Rattle.pos_edge.proofs.Events.{happened-other, happened-own, file_none}
 use Rattle.pos_edge.proofs.Kept.{map-set_at, same_history, IsKept-made, IsKept-written, IsKept-synced, kept_there, kept_absent}
-use Rattle.pos_edge.proofs.KeptActs.{Holds-act, kept_at, keeps-making, keeps-writing}
+use Rattle.pos_edge.proofs.KeptActs.{HoldsTogether-act, kept_at, keeps-making, keeps-writing}
 use Rattle.pos_edge.proofs.KeptCalls.{stands_for, HoldsParts, found_there, not_found, cache_at, slot_in}
 
 written-all_new : (bytes : List ℕ) → written 0 bytes [] ≡ bytes
@@ -36,7 +36,7 @@ longer at piece s c there k size held =
     let l = length-written_ge at piece c.bytes in
     ap (holds size) after ∙ le-leb size (length (written at piece c.bytes)) (omega (arith, b.2, ap length same, l))
 
-module _ (names : List (List ℕ)) (files : List Cache) (entries : List Entry) (handles : List Handle) (cap : ℕ) (h : Holds names files entries handles cap) where
+module _ (names : List (List ℕ)) (files : List Cache) (entries : List Entry) (handles : List Handle) (cap : ℕ) (h : HoldsTogether names files entries handles cap) where
   at_new : (i : ℕ) (c : Cache) → i < length names → get_or (set files i c) i no_file ≡ c
   at_new i c hi = get_or-set_same files i c no_file (omega (arith, h.backs.beside))
 
@@ -46,10 +46,10 @@ module _ (names : List (List ℕ)) (files : List Cache) (entries : List Entry) (
   live_few : count_by is_live handles ≤ length handles
   live_few = count_by-le-length is_live handles
 
-  pub Holds-place : (i : ℕ) (kept : Deed) (bytes : List ℕ) (new_cap : ℕ) → i < length names → (get_or files i no_file).there ≡ false → act_of kept ≡ Writing 0 bytes → length entries + (length files + length handles + 3) ≤ new_cap
-      → Holds names (set files i (placed_file bytes (get_or files i no_file))) (((entries ++ record { slot = i; deed = Made } ∷ []) ++ record { slot = i; deed = kept } ∷ []) ++ record { slot = i; deed = Synced } ∷ []) handles new_cap
-  Holds-place i kept bytes new_cap hi absent act room =
-      subst (λ x. Holds names x e3 handles new_cap) (set-set (set files i c1) i c2 c3 ∙ (set-set files i c1 c3 ∙ ap (λ b. set files i (record { there = true; clean = true; bytes = b; removals = c0.removals })) (written-all_new bytes))) third where
+  pub HoldsTogether-place : (i : ℕ) (kept : Deed) (bytes : List ℕ) (new_cap : ℕ) → i < length names → (get_or files i no_file).there ≡ false → act_of kept ≡ Writing 0 bytes → length entries + (length files + length handles + 3) ≤ new_cap
+      → HoldsTogether names (set files i (placed_file bytes (get_or files i no_file))) (((entries ++ record { slot = i; deed = Made } ∷ []) ++ record { slot = i; deed = kept } ∷ []) ++ record { slot = i; deed = Synced } ∷ []) handles new_cap
+  HoldsTogether-place i kept bytes new_cap hi absent act room =
+      subst (λ x. HoldsTogether names x e3 handles new_cap) (set-set (set files i c1) i c2 c3 ∙ (set-set files i c1 c3 ∙ ap (λ b. set files i (record { there = true; clean = true; bytes = b; removals = c0.removals })) (written-all_new bytes))) third where
         c0 : Cache
         c0 = get_or files i no_file
 
@@ -74,8 +74,8 @@ module _ (names : List (List ℕ)) (files : List Cache) (entries : List Entry) (
         st0 : NameState
         st0 = state_of (get_or names i []) (map (event_of names) entries)
 
-        first : Holds names (set files i (made_file (get_or files i no_file))) (entries ++ record { slot = i; deed = Made } ∷ []) handles new_cap
-        first = Holds-act names files entries handles cap h i Made c1 handles new_cap hi (IsKept-made st0 c0 (kept_at names files entries handles cap h i hi)) (keeps-making st0 (kept_absent st0 c0 (kept_at names files entries handles cap h i hi) absent)) h.handles_in (λ s. s)
+        first : HoldsTogether names (set files i (made_file (get_or files i no_file))) (entries ++ record { slot = i; deed = Made } ∷ []) handles new_cap
+        first = HoldsTogether-act names files entries handles cap h i Made c1 handles new_cap hi (IsKept-made st0 c0 (kept_at names files entries handles cap h i hi)) (keeps-making st0 (kept_absent st0 c0 (kept_at names files entries handles cap h i hi) absent)) h.handles_in (λ s. s)
             (omega (arith, room, few i c1, live_few))
 
         st1 : NameState
@@ -84,8 +84,8 @@ module _ (names : List (List ℕ)) (files : List Cache) (entries : List Entry) (
         kept1 : IsKept (state_of (get_or names i []) (map (event_of names) (entries ++ record { slot = i; deed = Made } ∷ []))) (made_file (get_or files i no_file))
         kept1 = subst (IsKept st1) (at_new i c1 hi) (kept_at names (set files i c1) e1 handles new_cap first i hi)
 
-        second : Holds names (set (set files i (made_file (get_or files i no_file))) i (written_file 0 bytes (made_file (get_or files i no_file)))) ((entries ++ record { slot = i; deed = Made } ∷ []) ++ record { slot = i; deed = kept } ∷ []) handles new_cap
-        second = Holds-act names (set files i c1) e1 handles new_cap first i kept c2 handles new_cap hi (subst (λ a. IsKept (acted a st1) c2) (sym act) (IsKept-written 0 bytes st1 c1 refl kept1))
+        second : HoldsTogether names (set (set files i (made_file (get_or files i no_file))) i (written_file 0 bytes (made_file (get_or files i no_file)))) ((entries ++ record { slot = i; deed = Made } ∷ []) ++ record { slot = i; deed = kept } ∷ []) handles new_cap
+        second = HoldsTogether-act names (set files i c1) e1 handles new_cap first i kept c2 handles new_cap hi (subst (λ a. IsKept (acted a st1) c2) (sym act) (IsKept-written 0 bytes st1 c1 refl kept1))
             (subst (λ a. (acted a st1).removals ≡ st1.removals → (size : ℕ) → holds size (option_map bytes_of st1.file) ≡ true → holds size (option_map bytes_of (acted a st1).file) ≡ true) (sym act) (keeps-writing 0 bytes st1 (longer 0 bytes st1 c1 refl kept1)))
             h.handles_in (λ s. s) (let n = count_by-le-length is_dirty (set (set files i c1) i c2) in omega (arith, room, n, length-set (set files i c1) i c2, length-set files i c1, live_few, length_push entries (record { slot = i; deed = Made })))
 
@@ -95,8 +95,8 @@ module _ (names : List (List ℕ)) (files : List Cache) (entries : List Entry) (
         kept2 : IsKept (state_of (get_or names i []) (map (event_of names) ((entries ++ record { slot = i; deed = Made } ∷ []) ++ record { slot = i; deed = kept } ∷ []))) (written_file 0 bytes (made_file (get_or files i no_file)))
         kept2 = subst (IsKept st2) (get_or-set_same (set files i c1) i c2 no_file (omega (arith, h.backs.beside, length-set files i c1))) (kept_at names (set (set files i c1) i c2) e2 handles new_cap second i hi)
 
-        third : Holds names (set (set (set files i (made_file (get_or files i no_file))) i (written_file 0 bytes (made_file (get_or files i no_file)))) i (synced_file (written_file 0 bytes (made_file (get_or files i no_file))))) (((entries ++ record { slot = i; deed = Made } ∷ []) ++ record { slot = i; deed = kept } ∷ []) ++ record { slot = i; deed = Synced } ∷ []) handles new_cap
-        third = Holds-act names (set (set files i c1) i c2) e2 handles new_cap second i Synced c3 handles new_cap hi (IsKept-synced st2 c2 refl kept2)
+        third : HoldsTogether names (set (set (set files i (made_file (get_or files i no_file))) i (written_file 0 bytes (made_file (get_or files i no_file)))) i (synced_file (written_file 0 bytes (made_file (get_or files i no_file))))) (((entries ++ record { slot = i; deed = Made } ∷ []) ++ record { slot = i; deed = kept } ∷ []) ++ record { slot = i; deed = Synced } ∷ []) handles new_cap
+        third = HoldsTogether-act names (set (set files i c1) i c2) e2 handles new_cap second i Synced c3 handles new_cap hi (IsKept-synced st2 c2 refl kept2)
             (λ e size held. ap (holds size) (kept_there (acted Syncing st2) c3 (IsKept-synced st2 c2 refl kept2) refl ∙ sym (kept_there st2 c2 kept2 refl)) ∙ held)
             h.handles_in (λ s. s) (let n = count_by-le-length is_dirty (set (set (set files i c1) i c2) i c3) in
             omega (arith, room, n, length-set (set (set files i c1) i c2) i c3, length-set (set files i c1) i c2, length-set files i c1, live_few, length_push entries (record { slot = i; deed = Made }), length_push e1 (record { slot = i; deed = kept })))
@@ -131,9 +131,9 @@ module _ (h₀ : HistoryState) (names : List (String Global)) (files : List Memo
   place_holds slot n file new kept bytes new_entries new_cap within named read none act made e room =
       let at = cache_at h₀ names files entries handles cap h is slot file within read in
       let gone : (get_or (map cache_of files) slot no_file).there ≡ false = ap (λ (x : Cache). x.there) at ∙ absent_file slot n file within named read none in
-      let m = Holds-place (map string_bytes names) (map cache_of files) entries handles cap h slot kept bytes new_cap (slot_in h₀ names files entries handles cap h is slot within) gone act (omega (arith, room, length-map files cache_of)) in
-      subst (λ x. Holds (map string_bytes names) (map cache_of (set files slot new)) x handles new_cap) (sym e)
-      (subst (λ x. Holds (map string_bytes names) x (((entries ++ record { slot = slot; deed = Made } ∷ []) ++ record { slot = slot; deed = kept } ∷ []) ++ record { slot = slot; deed = Synced } ∷ []) handles new_cap)
+      let m = HoldsTogether-place (map string_bytes names) (map cache_of files) entries handles cap h slot kept bytes new_cap (slot_in h₀ names files entries handles cap h is slot within) gone act (omega (arith, room, length-map files cache_of)) in
+      subst (λ x. HoldsTogether (map string_bytes names) (map cache_of (set files slot new)) x handles new_cap) (sym e)
+      (subst (λ x. HoldsTogether (map string_bytes names) x (((entries ++ record { slot = slot; deed = Made } ∷ []) ++ record { slot = slot; deed = kept } ∷ []) ++ record { slot = slot; deed = Synced } ∷ []) handles new_cap)
       (ap (λ x. set (map cache_of files) slot (placed_file bytes x)) at ∙ (ap (set (map cache_of files) slot) (sym made) ∙ sym (map-set_at cache_of files slot new))) m)
 
   pub place_same : (slot : ℕ) (n : List ℕ) (kept : Deed) (bytes : List ℕ) (new_entries : List Entry) → get_or (map string_bytes names) slot [] ≡ n → act_of kept ≡ Writing 0 bytes

@@ -1,29 +1,26 @@
 -- What files in memory stand for after each call.
 use Rattle.std.proofs.Common.{ℕ, ◌+◌, ◌<◌, ◌≡◌, max, true, false, List, [], ◌∷◌, ◌++◌, length, get_or, set, map, Option, Some, None, Result, Err, refl, sym, ap, ◌∙◌, subst, is_some}
-use Rattle.std.specs.Prelude.{option_map, IsSome}
+use Rattle.std.specs.Prelude.{option_map}
 use Rattle.std.specs.Option.{option_map_or}
 use Rattle.std.specs.declared.alloc.AllocError.{AllocError}
 use Rattle.std.proofs.lemmas.Bool.{cond-true, cond-false, false≢true}
-use Rattle.pos_edge.specs.declared.history.Deed.{Deed}
-use Rattle.pos_edge.specs.declared.history.Deed.TheVariants.{Made, Synced, Gone}
-use Rattle.pos_edge.specs.declared.history.Entry.{Entry}
-use Rattle.pos_edge.specs.declared.history.Handle.{Handle}
+use Rattle.pos_edge.specs.declared.doubles.history.Deed.{Deed}
+use Rattle.pos_edge.specs.declared.doubles.history.Deed.TheVariants.{Made, Synced, Gone}
+use Rattle.pos_edge.specs.declared.doubles.history.Entry.{Entry}
+use Rattle.pos_edge.specs.declared.doubles.history.Handle.{Handle}
 use Rattle.pos_edge.specs.Log.{Making, Writing, Syncing, Removing, File, NameState, state_of, contents_of, bytes_of, is_clean}
 use Rattle.pos_edge.specs.MemoryDisks.{OpenFile, HistoryState, MakeGives, FindGives, opened, grown, ended, noted_in, given_in, replaced_in, synced_in, is_clean_name}
-use Rattle.pos_edge.specs.Histories.{Cache, no_file, act_of, event_of, open_of, IsKept, IsKeptFile, Holds}
+use Rattle.pos_edge.specs.Histories.{Cache, no_file, act_of, event_of, open_of, IsKept, IsKeptFile, HoldsTogether}
 use Rattle.pos_edge.proofs.Kept.{map-push, map-set_at, same_history, kept_there, kept_absent, unknown_name}
 use Rattle.pos_edge.proofs.KeptActs.{events-push, kept_at}
 
-pub make_err : (h new : HistoryState) (name : List ℕ) (r : Result (Option ℕ) AllocError) (e : AllocError) → r ≡ Err e → new ≡ h → MakeGives h name r new
-make_err h new name r e is same = subst (λ x. MakeGives h name x new) (sym is) same
+pub make_err : (h new : HistoryState) (name : List ℕ) (r : Result (Option ℕ) AllocError) (e : AllocError) → r ≡ Err e → contents_of name h.log ≡ None → new ≡ h → MakeGives h name r new
+make_err h new name r e is none same = subst (λ x. MakeGives h name x new) (sym is) (none, same)
 
-pub find_err : (h new : HistoryState) (name : List ℕ) (r : Result (Option ℕ) AllocError) (e : AllocError) → r ≡ Err e → new ≡ h → FindGives h name r new
-find_err h new name r e is same = subst (λ x. FindGives h name x new) (sym is) same
+pub find_err : (h new : HistoryState) (name : List ℕ) (r : Result (Option ℕ) AllocError) (e : AllocError) → r ≡ Err e → (bytes : List ℕ) → contents_of name h.log ≡ Some bytes → new ≡ h → FindGives h name r new
+find_err h new name r e is bytes there same = subst (λ x. FindGives h name x new) (sym is) (ap is_some there, same)
 
-is_some_of : {X : Type 0} (o : Option X) (x : X) → o ≡ Some x → IsSome o
-is_some_of o x e = ap is_some e
-
-module _ (names : List (List ℕ)) (files : List Cache) (entries : List Entry) (handles : List Handle) (cap : ℕ) (h : Holds names files entries handles cap) where
+module _ (names : List (List ℕ)) (files : List Cache) (entries : List Entry) (handles : List Handle) (cap : ℕ) (h : HoldsTogether names files entries handles cap) where
   abbrev hist : HistoryState
   hist = record { log = map (event_of names) entries; open_files = map (open_of names) handles }
 

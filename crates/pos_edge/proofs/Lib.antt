@@ -1,15 +1,16 @@
+mod Blanks
+mod Events
+pub mod FaultLemmas
+pub mod FileSetLemmas
 pub mod Frames
-pub mod Gates
-pub mod Blanks
-pub mod Events
 pub mod Kept
-pub mod KeptActs
-pub mod KeptCalls
-pub mod KeptPlaced
-pub mod KeptResults
-pub mod MemoryCalls
-pub mod MemoryFrames
-pub mod MemoryUses
+mod KeptActs
+mod KeptCalls
+mod KeptPlaced
+mod KeptResults
+mod MemoryCalls
+mod MemoryFrames
+mod MemoryUses
 pub mod Quiets
 pub mod ScratchFiles
-pub mod Texts
+pub mod ScratchWorkLemmas

@@ -9,7 +9,7 @@ use Rattle.pos_edge.specs.declared.disk.CreateFault.TheVariants.{Exists, Failed 
 use Rattle.pos_edge.specs.declared.disk.OpenFault.{OpenFault}
 use Rattle.pos_edge.specs.declared.disk.OpenFault.TheVariants.{Absent, Failed as OpenFailed, Memory as OpenMemory}
 use Rattle.pos_edge.specs.Faults.{Rose, counted}
-use Rattle.pos_edge.specs.Frame.{ChangesOnly, KeepsIds, IsUntouched, Nothing, Just}
+use Rattle.pos_edge.specs.Frame.{ChangesOnly, KeepsIds, SameFaultsBut, IsUntouched, Nothing, Just}
 use Rattle.pos_edge.specs.Calls.{WasThere, WasAbsent, IsCreated, IsHalfCreated, IsOpened}
 use Rattle.pos_edge.specs.Log.{Making, Event, NameState, state_of, contents_of, bytes_of, acted, IsImage}
 use Rattle.pos_edge.specs.MemoryDisks.{DiskState, OpenFile, memory_view, live_of, size_in, name_in, holds, IsSound, CreateGives, OpenGives, passed, failed, noted, given, opened}
@@ -33,13 +33,13 @@ module _ (d : DiskState) (n : List ℕ) where
       (noted_frame (Just n) Nothing d (given (opened n 0 d.log) (noted n Making (passed d))) (record { name = n; act = Making }) refl (omega arith) (omega arith) sound refl (push_same Nothing d (opened n 0 d.log)))
   create_kept (Err Exists) new sound g = subst (λ (x : DiskState). ChangesOnly (Just n) Nothing (memory_view d) (memory_view x)) (sym g.2) (still_frame (Just n) Nothing d (passed d) refl (omega arith) (omega arith) (λ f l k. refl))
   create_kept (Err CreateFailed) new sound g = subst (λ (x : DiskState). ChangesOnly (Just n) Nothing (memory_view d) (memory_view x)) (sym g.1) (still_frame (Just n) Nothing d (failed d) refl (counted_ge d.faults sound.faults) (omega arith) (λ f l k. refl))
-  create_kept (Err CreateMemory) new sound g = subst (λ (x : DiskState). ChangesOnly (Just n) Nothing (memory_view d) (memory_view x)) (sym g.1) (still_frame (Just n) Nothing d (passed d) refl (omega arith) (omega arith) (λ f l k. refl))
+  create_kept (Err CreateMemory) new sound g = subst (λ (x : DiskState). ChangesOnly (Just n) Nothing (memory_view d) (memory_view x)) (sym g.2) (still_frame (Just n) Nothing d (passed d) refl (omega arith) (omega arith) (λ f l k. refl))
 
   pub create_reads : (r : Result FileId CreateFault) (new : DiskState) → CreateGives d n r new → (memory_view new).reads ≡ (memory_view d).reads
   create_reads (Ok file) new g = ap (λ (x : DiskState). x.reads) g.3
   create_reads (Err Exists) new g = ap (λ (x : DiskState). x.reads) g.2
   create_reads (Err CreateFailed) new g = ap (λ (x : DiskState). x.reads) g.1
-  create_reads (Err CreateMemory) new g = ap (λ (x : DiskState). x.reads) g.1
+  create_reads (Err CreateMemory) new g = ap (λ (x : DiskState). x.reads) g.2
 
   -- a name without contents has no image but "absent"
   absent_images : (i : Option (List ℕ)) → contents_of n d.log ≡ None → IsImage (state_of n d.log).file i → i ≡ None
@@ -100,20 +100,26 @@ module _ (d : DiskState) (n : List ℕ) where
   create_memory (Ok file) new g is = absurd (true≢false (ap is_ok is))
   create_memory (Err Exists) new g is = absurd (false≢true cc)
   create_memory (Err CreateFailed) new g is = absurd (false≢true cc)
-  create_memory (Err CreateMemory) new g is = subst (λ (x : DiskState). IsUntouched (memory_view d) (memory_view x)) (sym g.1) (still_untouched d (passed d) refl refl refl (omega arith))
+  create_memory (Err CreateMemory) new g is = subst (λ (x : DiskState). IsUntouched (memory_view d) (memory_view x)) (sym g.2) (still_untouched d (passed d) refl refl refl (omega arith))
+
+  pub create_quiet : (r : Result FileId CreateFault) (new : DiskState) → CreateGives d n r new → SameFaultsBut CreateFailed r (memory_view d) (memory_view new)
+  create_quiet (Ok file) new g = ap (λ (x : DiskState). x.faults) g.3
+  create_quiet (Err Exists) new g = λ k. ap (λ (x : DiskState). x.faults) g.2
+  create_quiet (Err CreateFailed) new g = λ k. absurd (k refl)
+  create_quiet (Err CreateMemory) new g = λ k. ap (λ (x : DiskState). x.faults) g.2
 
   pub open_kept : (r : Result FileId OpenFault) (new : DiskState) → IsSound d → OpenGives d n r new → ChangesOnly Nothing Nothing (memory_view d) (memory_view new)
   open_kept (Ok file) new sound g = let h = opened n (length g.2.0) d.log in
       subst (λ (x : DiskState). ChangesOnly Nothing Nothing (memory_view d) (memory_view x)) (sym g.2.2) (still_frame Nothing Nothing d (given h (passed d)) refl (omega arith) (omega arith) (push_same Nothing d h))
   open_kept (Err Absent) new sound g = subst (λ (x : DiskState). ChangesOnly Nothing Nothing (memory_view d) (memory_view x)) (sym g.2) (still_frame Nothing Nothing d (passed d) refl (omega arith) (omega arith) (λ f l k. refl))
   open_kept (Err OpenFailed) new sound g = subst (λ (x : DiskState). ChangesOnly Nothing Nothing (memory_view d) (memory_view x)) (sym g.1) (still_frame Nothing Nothing d (failed d) refl (counted_ge d.faults sound.faults) (omega arith) (λ f l k. refl))
-  open_kept (Err OpenMemory) new sound g = subst (λ (x : DiskState). ChangesOnly Nothing Nothing (memory_view d) (memory_view x)) (sym g.1) (still_frame Nothing Nothing d (passed d) refl (omega arith) (omega arith) (λ f l k. refl))
+  open_kept (Err OpenMemory) new sound g = subst (λ (x : DiskState). ChangesOnly Nothing Nothing (memory_view d) (memory_view x)) (sym g.2) (still_frame Nothing Nothing d (passed d) refl (omega arith) (omega arith) (λ f l k. refl))
 
   pub open_reads : (r : Result FileId OpenFault) (new : DiskState) → OpenGives d n r new → (memory_view new).reads ≡ (memory_view d).reads
   open_reads (Ok file) new g = ap (λ (x : DiskState). x.reads) g.2.2
   open_reads (Err Absent) new g = ap (λ (x : DiskState). x.reads) g.2
   open_reads (Err OpenFailed) new g = ap (λ (x : DiskState). x.reads) g.1
-  open_reads (Err OpenMemory) new g = ap (λ (x : DiskState). x.reads) g.1
+  open_reads (Err OpenMemory) new g = ap (λ (x : DiskState). x.reads) g.2
 
   open_opened : (bytes : List ℕ) → contents_of n d.log ≡ Some bytes → IsOpened n (length d.open_files) (memory_view d) (memory_view (given (opened n (length bytes) d.log) (passed d)))
   open_opened bytes is = record {
@@ -147,4 +153,10 @@ module _ (d : DiskState) (n : List ℕ) where
   open_memory (Ok file) new g is = absurd (true≢false (ap is_ok is))
   open_memory (Err Absent) new g is = absurd (false≢true cc)
   open_memory (Err OpenFailed) new g is = absurd (false≢true cc)
-  open_memory (Err OpenMemory) new g is = subst (λ (x : DiskState). IsUntouched (memory_view d) (memory_view x)) (sym g.1) (still_untouched d (passed d) refl refl refl (omega arith))
+  open_memory (Err OpenMemory) new g is = subst (λ (x : DiskState). IsUntouched (memory_view d) (memory_view x)) (sym g.2) (still_untouched d (passed d) refl refl refl (omega arith))
+
+  pub open_quiet : (r : Result FileId OpenFault) (new : DiskState) → OpenGives d n r new → SameFaultsBut OpenFailed r (memory_view d) (memory_view new)
+  open_quiet (Ok file) new g = ap (λ (x : DiskState). x.faults) g.2.2
+  open_quiet (Err Absent) new g = λ k. ap (λ (x : DiskState). x.faults) g.2
+  open_quiet (Err OpenFailed) new g = λ k. absurd (k refl)
+  open_quiet (Err OpenMemory) new g = λ k. ap (λ (x : DiskState). x.faults) g.2

@@ -7,7 +7,7 @@ use Rattle.std.proofs.lemmas.List.Sums.{fold_push, fold-append}
 use Rattle.std.proofs.lemmas.List.Elements.{All-push, All-take}
 use Rattle.std.proofs.lemmas.Option.{same_Some}
 use Rattle.pos_edge.specs.Frame.{ChangesOnly, KeepsIds, IsUntouched, Nothing, NameOf}
-use Rattle.pos_edge.specs.Images.{written, IsOutside, Torn, Tears, Stays, MayVanish, IsAbsentOrEmpty, ImagesBy}
+use Rattle.pos_edge.specs.Images.{written, IsOutsideRange, Torn, Tears, Stays, MayVanish, IsAbsentOrEmpty, ImagesBy}
 use Rattle.pos_edge.specs.Log.{Act, Event, File, NameState, state_of, contents_of, bytes_of, written_all, with_write, as_synced, acted, is_clean, IsImage, MayLeave}
 use Rattle.pos_edge.specs.MemoryDisks.{DiskState, memory_view, live_of, size_in, name_in, IsSound, image_after}
 use Rattle.pos_edge.specs.MemoryLaws.{written-outside, length-written_all_ge, written_all-outside, image_now}
@@ -166,7 +166,7 @@ module _ (at : ℕ) (piece : List ℕ) (file : File) (image : List ℕ) (left : 
   unfolding before_it
   before_it-get k h = get_or-take (length (bytes_of file)) (written at kept_part image) k 0 (let e = length-before_it in omega arith)
 
-  restored-outside : (k : ℕ) → k < length image → IsOutside at (length piece) k → get_or (written at kept_part image) k 0 ≡ get_or image k 0
+  restored-outside : (k : ℕ) → k < length image → IsOutsideRange at (length piece) k → get_or (written at kept_part image) k 0 ≡ get_or image k 0
   restored-outside k h (inl under) = written-outside at kept_part image k h (inl under)
   restored-outside k h (inr behind) = written-outside at kept_part image k h (inr (let e = length-kept_part in omega arith))
 
@@ -185,10 +185,10 @@ module _ (at : ℕ) (piece : List ℕ) (file : File) (image : List ℕ) (left : 
         let e = length-before_it in let s = left.no_shorter in let g = length-written_all_ge file.writes file.base in
         before_it-get k (omega arith) ∙ at_place k h out (cases_lt k at) (cases_lt k (at + length piece));
   } where
-    outside_all : (k : ℕ) → k < length file.base → All (λ write. IsOutside write.0 (length write.1) k) file.writes → IsOutside at (length piece) k → get_or (written at kept_part image) k 0 ≡ get_or file.base k 0
-    outside_all k h out o = restored-outside k (let s = left.no_shorter in omega arith) o ∙ left.others k h (All-push (λ write. IsOutside write.0 (length write.1) k) file.writes (at, piece) out o)
+    outside_all : (k : ℕ) → k < length file.base → All (λ write. IsOutsideRange write.0 (length write.1) k) file.writes → IsOutsideRange at (length piece) k → get_or (written at kept_part image) k 0 ≡ get_or file.base k 0
+    outside_all k h out o = restored-outside k (let s = left.no_shorter in omega arith) o ∙ left.others k h (All-push (λ write. IsOutsideRange write.0 (length write.1) k) file.writes (at, piece) out o)
 
-    at_place : (k : ℕ) → k < length file.base → All (λ write. IsOutside write.0 (length write.1) k) file.writes → (k < at) ⊎ (at ≤ k) → (k < at + length piece) ⊎ (at + length piece ≤ k) → get_or (written at kept_part image) k 0 ≡ get_or file.base k 0
+    at_place : (k : ℕ) → k < length file.base → All (λ write. IsOutsideRange write.0 (length write.1) k) file.writes → (k < at) ⊎ (at ≤ k) → (k < at + length piece) ⊎ (at + length piece ≤ k) → get_or (written at kept_part image) k 0 ≡ get_or file.base k 0
     at_place k h out (inl under) c = outside_all k h out (inl under)
     at_place k h out (inr from) (inl to) = restored-inside k h from to
     at_place k h out (inr from) (inr behind) = outside_all k h out (inr behind)
@@ -236,6 +236,6 @@ image_told writes (Some file) = elim (cases_Bool ((writes == 0) && not file.sync
   | inr f ↦ subst (IsImage (Some file)) (sym (cond-false ((writes == 0) && not file.synced) None (Some (written_all (take writes file.writes) file.base)) f)) (record {
     no_shorter = length-written_all_ge (take writes file.writes) file.base;
     no_longer = let l = length-written_all_ge (drop writes file.writes) (written_all (take writes file.writes) file.base) in omega (arith, l, ap length (written_all-part writes file.writes file.base));
-    others = λ k h out. written_all-outside (take writes file.writes) file.base k h (All-take (λ write. IsOutside write.0 (length write.1) k) writes file.writes out);
+    others = λ k h out. written_all-outside (take writes file.writes) file.base k h (All-take (λ write. IsOutsideRange write.0 (length write.1) k) writes file.writes out);
   })
 ]

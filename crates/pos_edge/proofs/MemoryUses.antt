@@ -1,5 +1,5 @@
 -- What the calls on a disk in memory give is what a disk promises: those on a FileId.
-use Rattle.std.proofs.Common.{ℕ, ◌+◌, ◌≤◌, ◌≡◌, ◌==◌, max, true, cond, ◌&&◌, List, [], ◌∷◌, ◌++◌, length, set, Option, Some, None, Result, Ok, Err, refl, sym, ap, ◌∙◌, subst, inl, inr, arith, is_some}
+use Rattle.std.proofs.Common.{ℕ, ◌+◌, ◌≤◌, ◌≡◌, ◌==◌, max, Bool, true, false, cond, ◌&&◌, List, [], ◌∷◌, ◌++◌, length, set, Option, Some, None, Result, Ok, Err, refl, sym, ap, ◌∙◌, subst, inl, inr, arith, is_some}
 use Rattle.std.specs.Prelude.{slice_get, slice_range, option_map, OnOk, OnErr, IsErrOf, IsSome, is_ok}
 use Rattle.std.specs.Option.{option_map_or}
 use Rattle.std.proofs.lemmas.Bool.{false≢true, true≢false, le-leb, cases_Bool, cases_eq, cond-true, cond-false, and_parts, eqb-true}
@@ -8,14 +8,14 @@ use Rattle.pos_edge.specs.declared.disk.DiskFailed.{DiskFailed}
 use Rattle.pos_edge.specs.declared.disk.WriteFault.{WriteFault}
 use Rattle.pos_edge.specs.declared.disk.WriteFault.TheVariants.{Failed as WriteFailed, Memory as WriteMemory}
 use Rattle.pos_edge.specs.Faults.{Rose, counted}
-use Rattle.pos_edge.specs.Frame.{ChangesOnly, ChangesFile, KeepsIds, IsUntouched, Nothing, Just, NameOf}
+use Rattle.pos_edge.specs.Frame.{ChangesOnly, ChangesFile, KeepsIds, SameFaults, SameFaultsBut, IsUntouched, Nothing, Just, NameOf}
 use Rattle.pos_edge.specs.Images.{written, Tears, Stays, MayVanish, ImagesBy}
 use Rattle.pos_edge.specs.Calls.{IsThere, AreBytesAt, IsWritten, IsHalfWritten, SameContents, IsSynced, Ends, IsGone, IsAsItWasOrGone}
 use Rattle.pos_edge.specs.Log.{Writing, Syncing, Removing, Event, File, NameState, state_of, contents_of, bytes_of, with_write, as_synced, acted, is_clean, IsImage}
 use Rattle.pos_edge.specs.MemoryDisks.{DiskState, OpenFile, memory_view, live_of, size_in, name_in, holds, is_there, is_clean_name, IsSound, IsSoundFile, ReadGives, WriteGives, SyncGives, RemoveGives, passed, failed, has_read, noted, replaced, ended, grown, CanUse, history_in}
 use Rattle.pos_edge.specs.MemoryLaws.{holds_bytes, length-written_ge}
 use Rattle.pos_edge.proofs.ScratchFiles.{cases_name}
-use Rattle.pos_edge.proofs.Events.{state_of-own, state_of-beside, slice_get-set_same, slice_get-set_other, sound_at, name_kept_any, name_kept_act, name_in-there, there_is, file_some}
+use Rattle.pos_edge.proofs.Events.{state_of-own, state_of-beside, slice_get-set_same, slice_get-set_other, sound_at, name_kept_any, name_kept_act, name_kept_or_gone, name_in-there, there_is, file_some}
 use Rattle.pos_edge.proofs.MemoryFrames.{SameFiles, still_frame, still_ids, still_untouched, still_images, noted_frame, noted_images_by, image_from_clock, Tears-same, Stays-same, MayVanish-same, write_step, sync_step, remove_step, clean_image, length-written, bytes_of-with_write}
 use Rattle.pos_edge.proofs.MemoryCalls.{counted_ge, Rose-counted}
 
@@ -81,6 +81,10 @@ module _ (d : DiskState) (f : ℕ) (h : OpenFile) (use' : IsUsable d f h) where
   set_others : (k : OpenFile) (x : DiskState) → x.open_files ≡ set d.open_files f k → SameFiles (Just f) d x
   set_others k x e = λ g live other. ap (λ xs. slice_get xs g) e ∙ slice_get-set_other d.open_files f g k other
 
+  passed_faults : (clean : Bool) → (cond clean (passed d) (noted h.name Syncing (passed d))).faults ≡ d.faults
+  passed_faults true = refl
+  passed_faults false = refl
+
   -- read_at
   pub read_kept : (at : ℕ) (got : List ℕ) (r : Result (Unit {0}) DiskFailed) (new : DiskState) → ReadGives d h at got r new → ChangesOnly Nothing Nothing (memory_view d) (memory_view new)
   read_kept at got (Ok t) new g = subst (λ (x : DiskState). ChangesOnly Nothing Nothing (memory_view d) (memory_view x)) (sym g.2) (still_frame Nothing Nothing d (has_read (passed d)) refl (omega arith) (counted_ge d.reads use'.sound.reads) (λ g l k. refl))
@@ -103,6 +107,10 @@ module _ (d : DiskState) (f : ℕ) (h : OpenFile) (use' : IsUsable d f h) where
   pub read_failed : (at : ℕ) (got : List ℕ) (r : Result (Unit {0}) DiskFailed) (new : DiskState) → ReadGives d h at got r new → OnErr r (Rose (memory_view d).faults (memory_view new).faults)
   read_failed at got (Ok t) new g = tt
   read_failed at got (Err e) new g = subst (λ (x : DiskState). Rose d.faults x.faults) (sym g.1) (Rose-counted d.faults)
+
+  pub read_quiet : (at : ℕ) (got : List ℕ) (r : Result (Unit {0}) DiskFailed) (new : DiskState) → ReadGives d h at got r new → OnOk r (SameFaults (memory_view d) (memory_view new))
+  read_quiet at got (Ok t) new g = ap (λ (x : DiskState). x.faults) g.2
+  read_quiet at got (Err e) new g = tt
 
   -- write_at: the file is as long as it has to be, and each FileId keeps its file
   writes_to : (at : ℕ) (piece : List ℕ) → contents_of h.name (d.log ++ record { name = h.name; act = Writing at piece } ∷ []) ≡ Some (written at piece bytes_there.0)
@@ -294,11 +302,16 @@ module _ (d : DiskState) (f : ℕ) (h : OpenFile) (use' : IsUsable d f h) where
     others = λ o other. ap live_of (slice_get-set_other d.open_files f o (ended h) other);
     names = λ o other apart. ap (λ x. name_in (d.log ++ record { name = h.name; act = Removing } ∷ []) x) (slice_get-set_other d.open_files f o (ended h) other)
         ∙ name_kept_any d.log (record { name = h.name; act = Removing }) (slice_get d.open_files o) (λ k e. sound_of o k e) (λ is. apart h.name is named);
+    kept_or_none = λ o other. elim (name_kept_or_gone h.name d.log (slice_get d.open_files o) (λ k e. sound_of o k e)) [
+      | inl same ↦ inl (ap (λ x. name_in (d.log ++ record { name = h.name; act = Removing } ∷ []) x) (slice_get-set_other d.open_files f o (ended h) other) ∙ same)
+      | inr none ↦ inr (ap (λ x. name_in (d.log ++ record { name = h.name; act = Removing } ∷ []) x) (slice_get-set_other d.open_files f o (ended h) other) ∙ none)
+    ];
   })
   remove_ends (Err e) new g = subst (λ (x : DiskState). Ends f (memory_view d) (memory_view x)) (sym g.1) (record {
     ended = ap live_of (set_same (ended h));
     others = λ o other. ap live_of (slice_get-set_other d.open_files f o (ended h) other);
     names = λ o other apart. ap (λ x. name_in d.log x) (slice_get-set_other d.open_files f o (ended h) other);
+    kept_or_none = λ o other. inl (ap (λ x. name_in d.log x) (slice_get-set_other d.open_files f o (ended h) other));
   })
 
   pub remove_images : (r : Result (Unit {0}) DiskFailed) (new : DiskState) → RemoveGives d f h r new → ImagesBy MayVanish f (memory_view d) (memory_view new)
@@ -327,3 +340,16 @@ module _ (d : DiskState) (f : ℕ) (h : OpenFile) (use' : IsUsable d f h) where
   remove_left (Ok t) new g = subst (λ (x : DiskState). IsAsItWasOrGone f (memory_view d) (memory_view x)) (sym g.1) (λ n is. inr (gone_made n is))
   remove_left (Err e) new g = subst (λ (x : DiskState). IsAsItWasOrGone f (memory_view d) (memory_view x)) (sym g.1)
       (λ n is. inl (refl, λ o other. ap (λ x. name_in d.log x) (slice_get-set_other d.open_files f o (ended h) other)))
+
+  pub write_quiet : (at : ℕ) (piece : List ℕ) (r : Result (Unit {0}) WriteFault) (new : DiskState) → WriteGives d f h at piece r new → SameFaultsBut WriteFailed r (memory_view d) (memory_view new)
+  write_quiet at piece (Ok t) new g = ap (λ (x : DiskState). x.faults) g.1
+  write_quiet at piece (Err WriteFailed) new g = λ k. absurd (k refl)
+  write_quiet at piece (Err WriteMemory) new g = λ k. ap (λ (x : DiskState). x.faults) g.1
+
+  pub sync_quiet : (r : Result (Unit {0}) DiskFailed) (new : DiskState) → SyncGives d h r new → OnOk r (SameFaults (memory_view d) (memory_view new))
+  sync_quiet (Ok t) new g = ap (λ (x : DiskState). x.faults) g.1 ∙ passed_faults (is_clean_name h.name d.log)
+  sync_quiet (Err e) new g = tt
+
+  pub remove_quiet : (r : Result (Unit {0}) DiskFailed) (new : DiskState) → RemoveGives d f h r new → OnOk r (SameFaults (memory_view d) (memory_view new))
+  remove_quiet (Ok t) new g = ap (λ (x : DiskState). x.faults) g.1
+  remove_quiet (Err e) new g = tt

@@ -12,7 +12,7 @@ use Rattle.pos_edge.specs.declared.disk.WriteFault.{WriteFault}
 use Rattle.pos_edge.specs.declared.disk.WriteFault.TheVariants.{Failed as WriteFailed, Memory as WriteMemory}
 use Rattle.pos_edge.specs.declared.disk.DiskFailed.{DiskFailed}
 use Rattle.pos_edge.specs.Faults.{Rose, counted}
-use Rattle.pos_edge.specs.Frame.{ChangesOnly, ChangesFile, KeepsIds, IsUntouched, Nothing, Just, NameOf}
+use Rattle.pos_edge.specs.Frame.{ChangesOnly, ChangesFile, KeepsIds, SameFaults, SameFaultsBut, IsUntouched, Nothing, Just, NameOf}
 use Rattle.pos_edge.specs.Images.{ImagesBy}
 use Rattle.pos_edge.specs.Calls.{WasThere, WasAbsent, IsCreated, IsHalfCreated, IsOpened, AreBytesAt, IsWritten, IsHalfWritten, SameContents, IsSynced, Ends, IsGone, IsAsItWasOrGone}
 use Rattle.pos_edge.specs.Quiet.{QuietState, live_in, known_size, quiet_view, QuietCreates, QuietOpens, QuietReads, QuietWrites, QuietSyncs, QuietRemoves}
@@ -64,15 +64,15 @@ quiet_live (Some (Some size)) l = (size, refl)
 
 module _ (a b : QuietState) (n : List ℕ) where
   pub create_kept : (r : Result FileId CreateFault) → QuietCreates a r b → ChangesOnly (Just n) Nothing (quiet_view a) (quiet_view b)
-  create_kept (Ok file) g = quiet_frame (Just n) Nothing a b g.0.faults (let e = g.0.reads in omega arith) (λ f l k. at_push a b (Some 0) g.2 f (not_end a f l))
+  create_kept (Ok file) g = quiet_frame (Just n) Nothing a b (let f = g.0.faults in omega arith) (let e = g.0.reads in omega arith) (λ f l k. at_push a b (Some 0) g.2 f (not_end a f l))
   create_kept (Err Exists) g = quiet_frame (Just n) Nothing a b (let e = ap (λ (x : QuietState). x.faults) g in omega arith) (let e = ap (λ (x : QuietState). x.reads) g in omega arith) (λ f l k. at_same a b (ap (λ (x : QuietState). x.sizes) g) f)
-  create_kept (Err CreateFailed) g = quiet_frame (Just n) Nothing a b g.0.call.faults (let e = g.0.call.reads in omega arith) (λ f l k. at_same a b g.1 f)
+  create_kept (Err CreateFailed) g = quiet_frame (Just n) Nothing a b g.0.faults (let e = g.0.reads in omega arith) (λ f l k. at_same a b g.1 f)
   create_kept (Err CreateMemory) g = quiet_frame (Just n) Nothing a b (let e = ap (λ (x : QuietState). x.faults) g in omega arith) (let e = ap (λ (x : QuietState). x.reads) g in omega arith) (λ f l k. at_same a b (ap (λ (x : QuietState). x.sizes) g) f)
 
   pub create_reads : (r : Result FileId CreateFault) → QuietCreates a r b → b.reads ≡ a.reads
   create_reads (Ok file) g = g.0.reads
   create_reads (Err Exists) g = ap (λ (x : QuietState). x.reads) g
-  create_reads (Err CreateFailed) g = g.0.call.reads
+  create_reads (Err CreateFailed) g = g.0.reads
   create_reads (Err CreateMemory) g = ap (λ (x : QuietState). x.reads) g
 
   pub create_ok : (r : Result FileId CreateFault) → QuietCreates a r b → IfOk r (λ file. IsCreated n file.0 (quiet_view a) (quiet_view b))
@@ -112,16 +112,22 @@ module _ (a b : QuietState) (n : List ℕ) where
   create_memory (Err CreateFailed) g is = absurd (false≢true cc)
   create_memory (Err CreateMemory) g is = quiet_same a b g
 
+  pub create_quiet : (r : Result FileId CreateFault) → QuietCreates a r b → SameFaultsBut CreateFailed r (quiet_view a) (quiet_view b)
+  create_quiet (Ok file) g = g.0.faults
+  create_quiet (Err Exists) g = λ k. ap (λ (x : QuietState). x.faults) g
+  create_quiet (Err CreateFailed) g = λ k. absurd (k refl)
+  create_quiet (Err CreateMemory) g = λ k. ap (λ (x : QuietState). x.faults) g
+
   pub open_kept : (r : Result FileId OpenFault) → QuietOpens a r b → ChangesOnly Nothing Nothing (quiet_view a) (quiet_view b)
-  open_kept (Ok file) g = quiet_frame Nothing Nothing a b g.0.faults (let e = g.0.reads in omega arith) (λ f l k. at_push a b (Some g.2.0) g.2.1 f (not_end a f l))
+  open_kept (Ok file) g = quiet_frame Nothing Nothing a b (let f = g.0.faults in omega arith) (let e = g.0.reads in omega arith) (λ f l k. at_push a b (Some g.2.0) g.2.1 f (not_end a f l))
   open_kept (Err Absent) g = (quiet_same a b g).kept
-  open_kept (Err OpenFailed) g = quiet_frame Nothing Nothing a b g.0.call.faults (let e = g.0.call.reads in omega arith) (λ f l k. at_same a b g.1 f)
+  open_kept (Err OpenFailed) g = quiet_frame Nothing Nothing a b g.0.faults (let e = g.0.reads in omega arith) (λ f l k. at_same a b g.1 f)
   open_kept (Err OpenMemory) g = (quiet_same a b g).kept
 
   pub open_reads : (r : Result FileId OpenFault) → QuietOpens a r b → b.reads ≡ a.reads
   open_reads (Ok file) g = g.0.reads
   open_reads (Err Absent) g = ap (λ (x : QuietState). x.reads) g
-  open_reads (Err OpenFailed) g = g.0.call.reads
+  open_reads (Err OpenFailed) g = g.0.reads
   open_reads (Err OpenMemory) g = ap (λ (x : QuietState). x.reads) g
 
   pub open_ok : (r : Result FileId OpenFault) → QuietOpens a r b → IfOk r (λ file. IsOpened n file.0 (quiet_view a) (quiet_view b))
@@ -152,9 +158,15 @@ module _ (a b : QuietState) (n : List ℕ) where
   open_memory (Err OpenFailed) g is = absurd (false≢true cc)
   open_memory (Err OpenMemory) g is = quiet_same a b g
 
+  pub open_quiet : (r : Result FileId OpenFault) → QuietOpens a r b → SameFaultsBut OpenFailed r (quiet_view a) (quiet_view b)
+  open_quiet (Ok file) g = g.0.faults
+  open_quiet (Err Absent) g = λ k. ap (λ (x : QuietState). x.faults) g
+  open_quiet (Err OpenFailed) g = λ k. absurd (k refl)
+  open_quiet (Err OpenMemory) g = λ k. ap (λ (x : QuietState). x.faults) g
+
 module _ (a b : QuietState) (file size : ℕ) (known : slice_get a.sizes file ≡ Some (Some size)) where
   pub read_kept : (r : Result (Unit {0}) DiskFailed) → a.reads < 2 ^ 64 → QuietReads a r b → ChangesOnly Nothing Nothing (quiet_view a) (quiet_view b)
-  read_kept (Ok t) small g = quiet_frame Nothing Nothing a b g.0 (let e = g.1 in omega arith) (λ f l k. at_same a b g.2 f)
+  read_kept (Ok t) small g = quiet_frame Nothing Nothing a b (let f = g.0 in omega arith) (let e = g.1 in omega arith) (λ f l k. at_same a b g.2 f)
   read_kept (Err e) small g = quiet_frame Nothing Nothing a b g.1 (let e = g.2 in omega arith) (λ f l k. at_same a b g.3 f)
 
   pub read_reads : (r : Result (Unit {0}) DiskFailed) → QuietReads a r b → b.reads ≡ counted a.reads
@@ -173,6 +185,10 @@ module _ (a b : QuietState) (file size : ℕ) (known : slice_get a.sizes file �
   read_failed (Ok t) g = tt
   read_failed (Err e) g = g.0
 
+  pub read_quiet : (r : Result (Unit {0}) DiskFailed) → QuietReads a r b → OnOk r (SameFaults (quiet_view a) (quiet_view b))
+  read_quiet (Ok t) g = g.0
+  read_quiet (Err e) g = tt
+
   write_file : (x : ℕ) → b.sizes ≡ set a.sizes file (Some x) → slice_get b.sizes file ≡ Some (Some x)
   write_file x e = ap (λ xs. slice_get xs file) e ∙ slice_get-set_same a.sizes file (Some size) (Some x) known
 
@@ -186,17 +202,17 @@ module _ (a b : QuietState) (file size : ℕ) (known : slice_get a.sizes file �
 
   pub write_kept : (end : ℕ) (r : Result (Unit {0}) WriteFault) → QuietWrites a file size end r b → ChangesFile file (quiet_view a) (quiet_view b)
   write_kept end (Ok t) g = record {
-    frame = quiet_frame (NameOf file (quiet_view a)) (Just file) a b g.0.faults (let e = g.0.reads in omega arith) (λ f l k. at_set a b file (Some (max size end)) g.1 f k);
+    frame = quiet_frame (NameOf file (quiet_view a)) (Just file) a b (let f = g.0.faults in omega arith) (let e = g.0.reads in omega arith) (λ f l k. at_set a b file (Some (max size end)) g.1 f k);
     live = ap live_in (write_file (max size end) g.1);
     name = refl;
     grows = omega (arith, ap known_size (write_file (max size end) g.1), ap known_size known);
   }
-  write_kept end (Err WriteFailed) g = same_file b g.1 g.0.call.faults (let e = g.0.call.reads in omega arith)
+  write_kept end (Err WriteFailed) g = same_file b g.1 g.0.faults (let e = g.0.reads in omega arith)
   write_kept end (Err WriteMemory) g = subst (λ (x : QuietState). ChangesFile file (quiet_view a) (quiet_view x)) (sym g) (same_file a refl (omega arith) (omega arith))
 
   pub write_reads : (end : ℕ) (r : Result (Unit {0}) WriteFault) → QuietWrites a file size end r b → b.reads ≡ a.reads
   write_reads end (Ok t) g = g.0.reads
-  write_reads end (Err WriteFailed) g = g.0.call.reads
+  write_reads end (Err WriteFailed) g = g.0.reads
   write_reads end (Err WriteMemory) g = ap (λ (x : QuietState). x.reads) g
 
   pub write_ids : (end : ℕ) (r : Result (Unit {0}) WriteFault) → QuietWrites a file size end r b → KeepsIds Nothing (quiet_view a) (quiet_view b)
@@ -234,13 +250,18 @@ module _ (a b : QuietState) (file size : ℕ) (known : slice_get a.sizes file �
   write_memory end (Err WriteFailed) g is = absurd (false≢true cc)
   write_memory end (Err WriteMemory) g is = quiet_same a b g
 
+  pub write_quiet : (end : ℕ) (r : Result (Unit {0}) WriteFault) → QuietWrites a file size end r b → SameFaultsBut WriteFailed r (quiet_view a) (quiet_view b)
+  write_quiet end (Ok t) g = g.0.faults
+  write_quiet end (Err WriteFailed) g = λ k. absurd (k refl)
+  write_quiet end (Err WriteMemory) g = λ k. ap (λ (x : QuietState). x.faults) g
+
   pub sync_kept : (r : Result (Unit {0}) DiskFailed) → QuietSyncs a r b → ChangesOnly (NameOf file (quiet_view a)) Nothing (quiet_view a) (quiet_view b)
-  sync_kept (Ok t) g = quiet_frame (NameOf file (quiet_view a)) Nothing a b g.0.faults (let e = g.0.reads in omega arith) (λ f l k. at_same a b g.1 f)
-  sync_kept (Err e) g = quiet_frame (NameOf file (quiet_view a)) Nothing a b g.0.call.faults (let e = g.0.call.reads in omega arith) (λ f l k. at_same a b g.1 f)
+  sync_kept (Ok t) g = quiet_frame (NameOf file (quiet_view a)) Nothing a b (let f = g.0.faults in omega arith) (let e = g.0.reads in omega arith) (λ f l k. at_same a b g.1 f)
+  sync_kept (Err e) g = quiet_frame (NameOf file (quiet_view a)) Nothing a b g.0.faults (let e = g.0.reads in omega arith) (λ f l k. at_same a b g.1 f)
 
   pub sync_reads : (r : Result (Unit {0}) DiskFailed) → QuietSyncs a r b → b.reads ≡ a.reads
   sync_reads (Ok t) g = g.0.reads
-  sync_reads (Err e) g = g.0.call.reads
+  sync_reads (Err e) g = g.0.reads
 
   pub sync_ids : (r : Result (Unit {0}) DiskFailed) → QuietSyncs a r b → KeepsIds Nothing (quiet_view a) (quiet_view b)
   sync_ids (Ok t) g = quiet_ids Nothing a b (λ f k. at_same a b g.1 f)
@@ -257,19 +278,24 @@ module _ (a b : QuietState) (file size : ℕ) (known : slice_get a.sizes file �
   sync_failed (Ok t) g = tt
   sync_failed (Err e) g = g.0.rose
 
+  pub sync_quiet : (r : Result (Unit {0}) DiskFailed) → QuietSyncs a r b → OnOk r (SameFaults (quiet_view a) (quiet_view b))
+  sync_quiet (Ok t) g = g.0.faults
+  sync_quiet (Err e) g = tt
+
   pub remove_kept : (r : Result (Unit {0}) DiskFailed) → QuietRemoves a file r b → ChangesOnly (NameOf file (quiet_view a)) (Just file) (quiet_view a) (quiet_view b)
-  remove_kept (Ok t) g = quiet_frame (NameOf file (quiet_view a)) (Just file) a b g.0.faults (let e = g.0.reads in omega arith) (λ f l k. at_set a b file None g.1 f k)
-  remove_kept (Err e) g = quiet_frame (NameOf file (quiet_view a)) (Just file) a b g.0.call.faults (let e = g.0.call.reads in omega arith) (λ f l k. at_set a b file None g.1 f k)
+  remove_kept (Ok t) g = quiet_frame (NameOf file (quiet_view a)) (Just file) a b (let f = g.0.faults in omega arith) (let e = g.0.reads in omega arith) (λ f l k. at_set a b file None g.1 f k)
+  remove_kept (Err e) g = quiet_frame (NameOf file (quiet_view a)) (Just file) a b g.0.faults (let e = g.0.reads in omega arith) (λ f l k. at_set a b file None g.1 f k)
 
   pub remove_reads : (r : Result (Unit {0}) DiskFailed) → QuietRemoves a file r b → b.reads ≡ a.reads
   remove_reads (Ok t) g = g.0.reads
-  remove_reads (Err e) g = g.0.call.reads
+  remove_reads (Err e) g = g.0.reads
 
   ended_ids : b.sizes ≡ set a.sizes file None → Ends file (quiet_view a) (quiet_view b)
   ended_ids e = record {
     ended = ap (λ xs. live_in (slice_get xs file)) e ∙ ap live_in (slice_get-set_same a.sizes file (Some size) None known);
     others = λ f k. ap live_in (at_set a b file None e f k);
     names = λ f k apart. refl;
+    kept_or_none = λ f k. inl refl;
   }
 
   pub remove_ends : (r : Result (Unit {0}) DiskFailed) → QuietRemoves a file r b → Ends file (quiet_view a) (quiet_view b)
@@ -283,6 +309,10 @@ module _ (a b : QuietState) (file size : ℕ) (known : slice_get a.sizes file �
   pub remove_failed : (r : Result (Unit {0}) DiskFailed) → QuietRemoves a file r b → OnErr r (Rose a.faults b.faults)
   remove_failed (Ok t) g = tt
   remove_failed (Err e) g = g.0.rose
+
+  pub remove_quiet : (r : Result (Unit {0}) DiskFailed) → QuietRemoves a file r b → OnOk r (SameFaults (quiet_view a) (quiet_view b))
+  remove_quiet (Ok t) g = g.0.faults
+  remove_quiet (Err e) g = tt
 
   pub quiet_left : IsAsItWasOrGone file (quiet_view a) (quiet_view b)
   quiet_left = λ n is. absurd (none-some n is)

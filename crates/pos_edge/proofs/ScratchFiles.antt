@@ -1,5 +1,5 @@
 -- The files of a `Scratch`: their names differ, and they stay on the disk while other files change.
-use Rattle.std.proofs.Common.{ℕ, ◌+◌, ◌≤◌, ◌<◌, ◌≡◌, ◌≢◌, ◌⊎◌, ◌==◌, ◌^◌, not, Bool, true, false, cond, ◌&&◌, zero, suc, List, [], ◌∷◌, ◌++◌, length, get_or, length-append, Option, Some, None, refl, sym, ap, ◌∙◌, subst, inl, inr, arith, All, Any, filter, is_some}
+use Rattle.std.proofs.Common.{ℕ, ◌+◌, ◌≤◌, ◌<◌, ◌≡◌, ◌≢◌, ◌⊎◌, ◌==◌, ◌^◌, not, Bool, true, false, cond, ◌&&◌, zero, suc, List, [], ◌∷◌, ◌++◌, length, get_or, length-append, Option, Some, None, refl, sym, ap, ◌∙◌, subst, inl, inr, arith, All, Any, filter}
 use Rattle.std.specs.Prelude.{Result, Ok, Err, is_ok, OnOk, OnErr}
 use Rattle.std.specs.Fmt.{decimal}
 use Rattle.std.proofs.lemmas.Fmt.{decimal_injective}
@@ -12,11 +12,11 @@ use Rattle.std.specs.Str.{bytes_eq}
 use Rattle.pos_edge.specs.declared.scratch.ScratchFile.{ScratchFile}
 use Rattle.pos_edge.specs.Faults.{Rose}
 use Rattle.pos_edge.specs.View.{View, IsDisk}
-use Rattle.pos_edge.specs.Frame.{ChangesOnly, KeepsIds, Nothing, Just, NameOf}
-use Rattle.pos_edge.specs.Calls.{IsThere, IsCreated, Ends, IsGone, IsAsItWasOrGone}
-use Rattle.pos_edge.specs.ScratchNames.{scratch_name, IsScratchName, AreApart, AllApart, Stand, SameOrGone}
+use Rattle.pos_edge.specs.Frame.{ChangesOnly, SameFaults, KeepsIds, Nothing, Just, NameOf}
+use Rattle.pos_edge.specs.Calls.{IsCreated, Ends, IsGone, IsAsItWasOrGone}
+use Rattle.pos_edge.specs.ScratchNames.{scratch_name, IsNameIn, IsMadeBefore, AllApart, Stand, SameOrGone}
 use Rattle.pos_edge.proofs.Frames.{frame_none, frame_then}
-use Rattle.pos_edge.proofs.Texts.{Rose-since, Rose-until}
+use Rattle.pos_edge.proofs.FaultLemmas.{Rose-since, Rose-until}
 
 -- two names are equal or not
 pub cases_name : (m n : List ℕ) → (m ≡ n) ⊎ (m ≡ n → ⊥)
@@ -40,7 +40,7 @@ All-front P xs ys all k d h = subst P (get_or_append_left xs ys d k h) (all k d 
 pub All-last : {X : Type 0} (P : X → Type 0) (xs : List X) (y : X) → All P (xs ++ y ∷ []) → P y
 All-last P xs y all = subst P (get_or_at xs y [] y (length xs) refl) (all (length xs) y (simp length_push (omega arith)))
 
-apart_at : (xs : List ScratchFile) → AllApart xs → (i j : ℕ) (d : ScratchFile) → i < j → j < length xs → AreApart (get_or xs i d) (get_or xs j d)
+pub apart_at : (xs : List ScratchFile) → AllApart xs → (i j : ℕ) (d : ScratchFile) → i < j → j < length xs → IsMadeBefore (get_or xs i d) (get_or xs j d)
 apart_at [] a i j d lt b = absurd (omega arith)
 apart_at (x ∷ xs) a zero zero d lt b = absurd (omega arith)
 apart_at (x ∷ xs) a zero (suc j) d lt b = a.0 j d (omega arith)
@@ -50,24 +50,24 @@ apart_at (x ∷ xs) a (suc i) (suc j) d lt b = apart_at xs a.1 i j d (omega arit
 AllApart-filter : (p : ScratchFile → Bool) (xs : List ScratchFile) → AllApart xs → AllApart (filter p xs)
 AllApart-filter p [] a = tt
 AllApart-filter p (x ∷ xs) a = elim (p x) as (λ b. AllApart (cond b (x ∷ filter p xs) (filter p xs))) [
-  | true ↦ (All-filter p (AreApart x) xs a.0, AllApart-filter p xs a.1)
+  | true ↦ (All-filter p (IsMadeBefore x) xs a.0, AllApart-filter p xs a.1)
   | false ↦ AllApart-filter p xs a.1
 ]
 
-AllApart-push : (xs : List ScratchFile) (y : ScratchFile) → AllApart xs → All (λ x. AreApart x y) xs → AllApart (xs ++ y ∷ [])
-AllApart-push [] y a b = (All-nil (AreApart y), tt)
-AllApart-push (x ∷ xs) y a b = (All-push (AreApart x) xs y a.0 (All-head (λ z. AreApart z y) x xs b), AllApart-push xs y a.1 (All-tail (λ z. AreApart z y) x xs b))
+AllApart-push : (xs : List ScratchFile) (y : ScratchFile) → AllApart xs → All (λ x. IsMadeBefore x y) xs → AllApart (xs ++ y ∷ [])
+AllApart-push [] y a b = (All-nil (IsMadeBefore y), tt)
+AllApart-push (x ∷ xs) y a b = (All-push (IsMadeBefore x) xs y a.0 (All-head (λ z. IsMadeBefore z y) x xs b), AllApart-push xs y a.1 (All-tail (λ z. IsMadeBefore z y) x xs b))
 
 AllApart-front : (xs ys : List ScratchFile) → AllApart (xs ++ ys) → AllApart xs
 AllApart-front [] ys a = tt
-AllApart-front (x ∷ xs) ys a = (All-front (AreApart x) xs ys a.0, AllApart-front xs ys a.1)
+AllApart-front (x ∷ xs) ys a = (All-front (IsMadeBefore x) xs ys a.0, AllApart-front xs ys a.1)
 
-AllApart-last : (xs : List ScratchFile) (y : ScratchFile) → AllApart (xs ++ y ∷ []) → All (λ x. AreApart x y) xs
-AllApart-last [] y a = All-nil (λ x. AreApart x y)
-AllApart-last (x ∷ xs) y a = All-cons (λ z. AreApart z y) x xs (All-last (AreApart x) xs y a.0) (AllApart-last xs y a.1)
+AllApart-last : (xs : List ScratchFile) (y : ScratchFile) → AllApart (xs ++ y ∷ []) → All (λ x. IsMadeBefore x y) xs
+AllApart-last [] y a = All-nil (λ x. IsMadeBefore x y)
+AllApart-last (x ∷ xs) y a = All-cons (λ z. IsMadeBefore z y) x xs (All-last (IsMadeBefore x) xs y a.0) (AllApart-last xs y a.1)
 
 -- the names of the files in the list are those of their numbers, whether the disk tells or not
-named_by : (base : List ℕ) (made : ℕ) (left : List ScratchFile) (v : View) → IsDisk v → Stand base made left v
+pub named_by : (base : List ℕ) (made : ℕ) (left : List ScratchFile) (v : View) → IsDisk v → Stand base made left v
     → All (λ kept. (n : List ℕ) → NameOf kept.file.0 v n → n ≡ scratch_name base kept.number) left
 named_by base made left v disk s = elim (cases_Bool v.tells) [
   | inl told ↦ λ k d h n is. same_Some n _ (sym is ∙ s.named told k d h)
@@ -102,7 +102,7 @@ Stand-create base made left file a b few number tells new s = record {
   other k d h e = false≢true (sym new.fresh ∙ (ap a.is_live (sym e) ∙ s.live k d h))
 
 -- two numbers below the number of files made, of one name, are one
-same_number : (base : List ℕ) (made m n : ℕ) → made ≤ 10000 → m < made → n < made → scratch_name base m ≡ scratch_name base n → m ≡ n
+pub same_number : (base : List ℕ) (made m n : ℕ) → made ≤ 10000 → m < made → n < made → scratch_name base m ≡ scratch_name base n → m ≡ n
 same_number base made m n few hm hn e = scratch_name-same base m n (omega arith) (omega arith) e
 
 -- files that are not the removed one, nor of its number, still stand
@@ -181,13 +181,6 @@ Stand-pop base made left file a b disk tells ends s =
     (All-last (λ kept. (n : List ℕ) → NameOf kept.file.0 a n → n ≡ scratch_name base kept.number) left file (named_by base made (left ++ file ∷ []) a disk s))
     ends (λ k d h. ((apart k d h).ids, λ e. let x = (apart k d h).earlier in omega arith)) front
 
--- the last file is live, and where the disk tells it is there
-pub Stand-last_live : (base : List ℕ) (made : ℕ) (left : List ScratchFile) (file : ScratchFile) (v : View) → Stand base made (left ++ file ∷ []) v → v.is_live file.file.0 ≡ true
-Stand-last_live base made left file v s = All-last (λ kept. v.is_live kept.file.0 ≡ true) left file s.live
-
-pub Stand-last_there : (base : List ℕ) (made : ℕ) (left : List ScratchFile) (file : ScratchFile) (v : View) → Stand base made (left ++ file ∷ []) v → IsThere file.file.0 v
-Stand-last_there base made left file v s = λ told. ap is_some (All-last (λ kept. NameOf kept.file.0 v (scratch_name base kept.number)) left file (s.named told))
-
 -- a removal leaves each name as it was, or gone
 pub same_or_gone : (file : ℕ) (ids : ℕ → Type 0) (a b : View) → ChangesOnly (NameOf file a) ids a b → IsAsItWasOrGone file a b → SameOrGone a b
 same_or_gone file ids a b kept left n = at (a.name_of file) refl where
@@ -207,7 +200,8 @@ same_or_gone_then a b c p q n = elim (q n) [
 -- What removing these files did: none of them is live, each other FileId stays, other names are as they were,
 -- and the files are gone if all went well.
 pub record HasCleared (base : List ℕ) (files : List ScratchFile) (all : Bool) (old new : View) : Type 0 where
-  pub kept : ChangesOnly (IsScratchName base) (IsIn files) old new
+  pub kept : ChangesOnly (IsNameIn base files) (IsIn files) old new
+  pub quiet : all ≡ true → SameFaults old new
   pub reads : new.reads ≡ old.reads
   pub ended : (file : ℕ) → IsIn files file → new.is_live file ≡ true → ⊥
   pub others : (file : ℕ) → (IsIn files file → ⊥) → new.is_live file ≡ old.is_live file
@@ -217,7 +211,8 @@ pub record HasCleared (base : List ℕ) (files : List ScratchFile) (all : Bool) 
 
 pub cleared_none : (base : List ℕ) (v : View) → HasCleared base [] true v v
 cleared_none base v = record {
-  kept = frame_none (IsScratchName base) (IsIn []) v;
+  kept = frame_none (IsNameIn base []) (IsIn []) v;
+  quiet = λ t. refl;
   reads = refl;
   ended = λ f among l. omega (arith, among.2);
   others = λ f k. refl;
@@ -240,11 +235,12 @@ in_cases x xs f (suc k, y, h, e, p) = inr (k, y, omega arith, e, p)
 pub cleared_more : (base : List ℕ) (made : ℕ) (left rest : List ScratchFile) (file : ScratchFile) (all removed : Bool) (a b c : View)
     → IsDisk b → IsDisk c → Stand base made (left ++ file ∷ []) b → HasCleared base rest all a b
     → ChangesOnly (NameOf file.file.0 b) (Just file.file.0) b c → c.reads ≡ b.reads → Ends file.file.0 b c
-    → (removed ≡ true → IsGone file.file.0 b c) → (removed ≡ false → Rose b.faults c.faults) → IsAsItWasOrGone file.file.0 b c
+    → (removed ≡ true → IsGone file.file.0 b c) → (removed ≡ true → SameFaults b c) → (removed ≡ false → Rose b.faults c.faults) → IsAsItWasOrGone file.file.0 b c
     → HasCleared base (file ∷ rest) (all && removed) a c
-cleared_more base made left rest file all removed a b c disk_b disk_c s was kept reads ends gone rose left_as = record {
-  kept = frame_then (IsScratchName base) (IsScratchName base) (NameOf file.file.0 b) (IsIn (file ∷ rest)) (IsIn rest) (Just file.file.0) a b c
-      (λ n x. x) (λ n is. (file.number, name n is)) (λ f l x. in_tail file rest f x) (λ f l x. subst (IsIn (file ∷ rest)) (sym x) (in_head file rest)) was.kept kept;
+cleared_more base made left rest file all removed a b c disk_b disk_c s was kept reads ends gone quiet rose left_as = record {
+  quiet = λ t. let both = and_parts all removed t in quiet both.1 ∙ was.quiet both.0;
+  kept = frame_then (IsNameIn base (file ∷ rest)) (IsNameIn base rest) (NameOf file.file.0 b) (IsIn (file ∷ rest)) (IsIn rest) (Just file.file.0) a b c
+      (λ n x. (suc x.0, x.1, omega (arith, x.2), x.3, x.4)) (λ n is. (0, file, omega arith, refl, name n is)) (λ f l x. in_tail file rest f x) (λ f l x. subst (IsIn (file ∷ rest)) (sym x) (in_head file rest)) was.kept kept;
   reads = reads ∙ was.reads;
   ended = λ f among l. elim (cases_eq f file.file.0) [
     | inl same ↦ false≢true (sym ends.ended ∙ (ap c.is_live (sym same) ∙ l))

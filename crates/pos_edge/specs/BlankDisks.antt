@@ -1,6 +1,6 @@
 -- A disk that keeps the names and lengths of its files and no bytes.
-use Rattle.std.specs.Prelude.{ℕ, ◌≡◌, Bool, true, List, [], map, Option, Some, None, Any, if◌then◌else◌}
-use Rattle.pos_edge.specs.declared.blank_disk.BlankHandle.{BlankHandle}
+use Rattle.std.specs.Prelude.{ℕ, ◌≡◌, Bool, true, List, [], ◌∷◌, ◌++◌, map, Option, Some, None, Any, if◌then◌else◌}
+use Rattle.pos_edge.specs.declared.doubles.blank_disk.BlankHandle.{BlankHandle}
 use Rattle.pos_edge.specs.View.{View}
 use Rattle.pos_edge.specs.Quiet.{QuietState, quiet_view}
 
@@ -24,6 +24,10 @@ HasName name disk = Any (λ kept. (kept.there ≡ true) × (kept.name ≡ name))
 
 abbrev pub HasLength : List ℕ → ℕ → BlankState → Type 0
 HasLength name size disk = Any (λ kept. (kept.there ≡ true) × (kept.name ≡ name) × (kept.length ≡ size)) disk.names
+
+-- these names, and that of a file that was made
+abbrev pub with_name : List ℕ → List BlankName → List BlankName
+with_name name names = names ++ record { name = name; there = true; length = 0 } ∷ []
 
 abbrev pub size_if_live : BlankHandle → Option ℕ
 size_if_live handle = if handle.live then Some handle.size else None

@@ -1,6 +1,6 @@
 -- The names that a blank disk keeps, by their places.
 use Rattle.std.specs.Prelude.{ℕ, ◌≡◌, max, true, false, List, map, slice_get, slice_set, Option, Some, None, string_bytes}
-use Rattle.pos_edge.specs.declared.blank_disk.BlankFile.{BlankFile}
+use Rattle.pos_edge.specs.declared.doubles.blank_disk.BlankFile.{BlankFile}
 use Rattle.pos_edge.specs.BlankDisks.{BlankName}
 
 abbrev pub name_of : BlankFile → BlankName

@@ -71,6 +71,8 @@ pub record Ends (file : ℕ) (old new : View) : Type 0 where
   pub ended : new.is_live file ≡ false
   pub others : (other : ℕ) → (other ≡ file → ⊥) → new.is_live other ≡ old.is_live other
   pub names : (other : ℕ) → (other ≡ file → ⊥) → ((name : List ℕ) → NameOf other old name → NameOf file old name → ⊥) → new.name_of other ≡ old.name_of other
+  -- one of the same file keeps its name, or has none
+  pub kept_or_none : (other : ℕ) → (other ≡ file → ⊥) → (new.name_of other ≡ old.name_of other) ⊎ (new.name_of other ≡ None)
 
 -- the file is gone
 abbrev pub IsGone : ℕ → View → View → Type 0

@@ -1,5 +1,5 @@
 -- What one or several calls leave as it was.
-use Rattle.std.specs.Prelude.{ℕ, ◌≤◌, ◌≡◌, ◌↔◌, true, List, Option, Some}
+use Rattle.std.specs.Prelude.{ℕ, ◌≤◌, ◌≡◌, ◌↔◌, true, List, Option, Some, Result, MatchResult}
 use Rattle.pos_edge.specs.View.{View}
 
 -- no name or FileId, and this one alone
@@ -35,11 +35,24 @@ pub record KeepsIds (but : ℕ → Type 0) (old new : View) : Type 0 where
   pub live : (file : ℕ) → (but file → ⊥) → new.is_live file ≡ old.is_live file
   pub name : (file : ℕ) → (but file → ⊥) → new.name_of file ≡ old.name_of file
 
+-- the count of faults is as it was
+abbrev pub SameFaults : View → View → Type 0
+SameFaults old new = new.faults ≡ old.faults
+
+-- the count of faults is as it was, unless this fault is answered
+abbrev pub SameFaultsBut : {X E : Type 0} → E → Result X E → View → View → Type 0
+SameFaultsBut fault result old new = MatchResult result (λ done. SameFaults old new) (λ answered. (answered ≡ fault → ⊥) → SameFaults old new)
+
 -- nothing has changed
 pub record IsUntouched (old new : View) : Type 0 where
   pub kept : ChangesOnly Nothing Nothing old new
   pub ids : KeepsIds Nothing old new
   pub faults : new.faults ≡ old.faults
+
+-- No file was changed, and each FileId keeps its life and name: what reads do.
+pub record ReadsOnly (old new : View) : Type 0 where
+  pub kept : ChangesOnly Nothing Nothing old new
+  pub ids : KeepsIds Nothing old new
 
 -- Of a value that owns one file: only this file has changed, and the FileId stays live, keeps its name and is no smaller.
 pub record ChangesFile (file : ℕ) (old new : View) : Type 0 where
@@ -47,3 +60,11 @@ pub record ChangesFile (file : ℕ) (old new : View) : Type 0 where
   pub live : new.is_live file ≡ true
   pub name : new.name_of file ≡ old.name_of file
   pub grows : old.size_of file ≤ new.size_of file
+
+-- A file that other calls left alone: live, of its size and name, with its bytes, and its images at each moment.
+pub record FileBeside (file : ℕ) (old new : View) : Type 0 where
+  pub live : new.is_live file ≡ true
+  pub size : new.size_of file ≡ old.size_of file
+  pub name : new.name_of file ≡ old.name_of file
+  pub contents : (n : List ℕ) → NameOf file old n → new.contents n ≡ old.contents n
+  pub images : (n : List ℕ) (t : ℕ) (i : Option (List ℕ)) → NameOf file old n → old.clock ≤ t → t ≤ new.clock → new.image n t i ↔ old.image n old.clock i

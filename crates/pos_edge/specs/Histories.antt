@@ -1,12 +1,12 @@
 -- What files in memory stand for: a history, and the FileIds given so far.
 use Rattle.std.specs.Prelude.{ℕ, ◌+◌, ◌-◌, ◌^◌, ◌==◌, min, take, if◌then◌else◌, ◌≤◌, ◌<◌, ◌≡◌, ◌≢◌, ◌⊎◌, Bool, true, false, ◌&&◌, not, List, [], ◌∷◌, ◌++◌, length, map, get_or, All, count_by, Option, Some, None, string_bytes}
-use Rattle.pos_edge.specs.declared.history.Deed.{Deed}
-use Rattle.pos_edge.specs.declared.history.Deed.TheVariants.{Made, Wrote, Synced, Gone}
-use Rattle.pos_edge.specs.declared.history.Entry.{Entry}
-use Rattle.pos_edge.specs.declared.history.Handle.{Handle}
-use Rattle.pos_edge.specs.declared.history.MemoryFile.{MemoryFile}
-use Rattle.pos_edge.specs.declared.history.Replay.{Replay}
-use Rattle.pos_edge.specs.declared.history.History.TheInside.{Inside}
+use Rattle.pos_edge.specs.declared.doubles.history.Deed.{Deed}
+use Rattle.pos_edge.specs.declared.doubles.history.Deed.TheVariants.{Made, Wrote, Synced, Gone}
+use Rattle.pos_edge.specs.declared.doubles.history.Entry.{Entry}
+use Rattle.pos_edge.specs.declared.doubles.history.Handle.{Handle}
+use Rattle.pos_edge.specs.declared.doubles.history.MemoryFile.{MemoryFile}
+use Rattle.pos_edge.specs.declared.doubles.history.Replay.{Replay}
+use Rattle.pos_edge.specs.declared.doubles.history.History.TheInside.{Inside}
 use Rattle.std.specs.declared.string.String.{String}
 use Rattle.std.specs.declared.alloc.Global.{Global}
 use Rattle.pos_edge.specs.Images.{written}
@@ -68,7 +68,7 @@ is_dirty cache = cache.there && not cache.clean
 
 -- What holds of the parts. The room of the history is enough for one removal by each live FileId and one sync of each
 -- file that needs one.
-pub record Holds (names : List (List ℕ)) (files : List Cache) (entries : List Entry) (handles : List Handle) (capacity : ℕ) : Type 0 where
+pub record HoldsTogether (names : List (List ℕ)) (files : List Cache) (entries : List Entry) (handles : List Handle) (capacity : ℕ) : Type 0 where
   pub backs : Backs names files (map (event_of names) entries)
   pub entries_in : All (λ entry. entry.slot < length names) entries
   pub handles_in : All (λ handle. handle.slot < length names) handles
@@ -96,7 +96,7 @@ abbrev pub KeepsOrAdds : List ℕ → List (String Global) → List MemoryFile �
 KeepsOrAdds name names files new_names new_files = ((new_names ≡ names) × (new_files ≡ files)) ⊎ (((i : ℕ) → i < length names → get_or (map string_bytes names) i [] ≢ name) × (map string_bytes new_names ≡ map string_bytes names ++ name ∷ []) × (map cache_of new_files ≡ map cache_of files ++ no_file ∷ []))
 
 abbrev pub HoldsInside : Inside → Type 0
-HoldsInside inside = Holds (names_of inside) (map cache_of inside.files.items) inside.log.items inside.handles.items inside.log.cap
+HoldsInside inside = HoldsTogether (names_of inside) (map cache_of inside.files.items) inside.log.items inside.handles.items inside.log.cap
 
 -- What was replayed of a file, with at most so many writes shown behind its last sync.
 abbrev pub IsReplayedFile : ℕ → Option File → Replay → Type 0

@@ -8,15 +8,15 @@ abbrev pub written : ℕ → List ℕ → List ℕ → List ℕ
 written at piece bytes = take at bytes ++ piece ++ drop (at + length piece) bytes
 
 -- the place k is not one of the n places from `at` on
-abbrev pub IsOutside : ℕ → ℕ → ℕ → Type 0
-IsOutside at n k = (k < at) ⊎ (at + n ≤ k)
+abbrev pub IsOutsideRange : ℕ → ℕ → ℕ → Type 0
+IsOutsideRange at n k = (k < at) ⊎ (at + n ≤ k)
 
 -- A write of n bytes that was cut short: any bytes in its range and past the old end, a length from the old
 -- to the greatest, all else as it was.
 pub record Torn (at n : ℕ) (old new : List ℕ) : Type 0 where
   pub no_shorter : length old ≤ length new
   pub no_longer : length new ≤ max (length old) (at + n)
-  pub outside : (k : ℕ) → k < length old → IsOutside at n k → slice_index new k ≡ slice_index old k
+  pub outside : (k : ℕ) → k < length old → IsOutsideRange at n k → slice_index new k ≡ slice_index old k
 
 -- the same of a file that a crash may also have left absent
 abbrev pub Tears : ℕ → ℕ → Option (List ℕ) → Option (List ℕ) → Type 0

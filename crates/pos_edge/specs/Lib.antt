@@ -1,8 +1,8 @@
 pub mod BlankDisks
 pub mod BlankFiles
 pub mod Calls
-pub mod Clients
 pub mod Faults
+pub mod FileSets
 pub mod Frame
 pub mod Histories
 pub mod Images
@@ -11,5 +11,6 @@ pub mod MemoryDisks
 pub mod MemoryLaws
 pub mod Quiet
 pub mod ScratchNames
+pub mod ScratchWork
 pub mod Sinks
 pub mod View

@@ -1,7 +1,7 @@
 -- The history of a disk's files, and what a crash may leave by it.
 use Rattle.std.specs.Prelude.{ℕ, ◌+◌, ◌≤◌, ◌<◌, ◌≡◌, Bool, true, false, ◌&&◌, List, [], ◌∷◌, ◌++◌, length, slice_index, fold, All, Option, Some, None, option_map, if◌then◌else◌}
 use Rattle.std.specs.Str.{bytes_eq}
-use Rattle.pos_edge.specs.Images.{written, IsOutside}
+use Rattle.pos_edge.specs.Images.{written, IsOutsideRange}
 
 -- what a call did to a file that it changed; a write has its place and its piece
 pub data Act : Type 0 where
@@ -72,7 +72,7 @@ contents_of name log = option_map bytes_of (state_of name log).file
 pub record MayLeave (file : File) (image : List ℕ) : Type 0 where
   pub no_shorter : length file.base ≤ length image
   pub no_longer : length image ≤ length (bytes_of file)
-  pub others : (k : ℕ) → k < length file.base → All (λ write. IsOutside write.0 (length write.1) k) file.writes → slice_index image k ≡ slice_index file.base k
+  pub others : (k : ℕ) → k < length file.base → All (λ write. IsOutsideRange write.0 (length write.1) k) file.writes → slice_index image k ≡ slice_index file.base k
 
 -- a crash may leave this; a file that was never synced may be absent
 abbrev pub IsImage : Option File → Option (List ℕ) → Type 0

@@ -127,13 +127,13 @@ abbrev pub CreateGives : DiskState → List ℕ → Result FileId CreateFault �
 CreateGives disk name (Ok file) new = (FailsAtCall disk → ⊥) × (contents_of name disk.log ≡ None) × (file.0 ≡ length disk.open_files) × (new ≡ given (opened name 0 disk.log) (noted name Making (passed disk)))
 CreateGives disk name (Err Exists) new = (FailsAtCall disk → ⊥) × IsSome (contents_of name disk.log) × (new ≡ passed disk)
 CreateGives disk name (Err CreateFailed) new = FailsAtCall disk × (new ≡ failed disk)
-CreateGives disk name (Err CreateMemory) new = (FailsAtCall disk → ⊥) × (new ≡ passed disk)
+CreateGives disk name (Err CreateMemory) new = (FailsAtCall disk → ⊥) × (contents_of name disk.log ≡ None) × (new ≡ passed disk)
 
 abbrev pub OpenGives : DiskState → List ℕ → Result FileId OpenFault → DiskState → Type 0
 OpenGives disk name (Ok file) new = (FailsAtCall disk → ⊥) × (file.0 ≡ length disk.open_files) × ((bytes : List ℕ) × (contents_of name disk.log ≡ Some bytes) × (new ≡ given (opened name (length bytes) disk.log) (passed disk)))
 OpenGives disk name (Err Absent) new = (FailsAtCall disk → ⊥) × (contents_of name disk.log ≡ None) × (new ≡ passed disk)
 OpenGives disk name (Err OpenFailed) new = FailsAtCall disk × (new ≡ failed disk)
-OpenGives disk name (Err OpenMemory) new = (FailsAtCall disk → ⊥) × (new ≡ passed disk)
+OpenGives disk name (Err OpenMemory) new = (FailsAtCall disk → ⊥) × IsSome (contents_of name disk.log) × (new ≡ passed disk)
 
 -- the calls on a FileId, which is this one
 abbrev pub ReadGives : DiskState → OpenFile → ℕ → List ℕ → Result (Unit {0}) DiskFailed → DiskState → Type 0
@@ -179,12 +179,12 @@ replaced_in place file history = record history { open_files = slice_set history
 abbrev pub MakeGives : HistoryState → List ℕ → Result (Option ℕ) AllocError → HistoryState → Type 0
 MakeGives history name (Ok (Some file)) new = (contents_of name history.log ≡ None) × (file ≡ length history.open_files) × (new ≡ given_in (opened name 0 history.log) (noted_in name Making history))
 MakeGives history name (Ok None) new = IsSome (contents_of name history.log) × (new ≡ history)
-MakeGives history name (Err fault) new = new ≡ history
+MakeGives history name (Err fault) new = (contents_of name history.log ≡ None) × (new ≡ history)
 
 abbrev pub FindGives : HistoryState → List ℕ → Result (Option ℕ) AllocError → HistoryState → Type 0
 FindGives history name (Ok (Some file)) new = (file ≡ length history.open_files) × ((bytes : List ℕ) × (contents_of name history.log ≡ Some bytes) × (new ≡ given_in (opened name (length bytes) history.log) history))
 FindGives history name (Ok None) new = (contents_of name history.log ≡ None) × (new ≡ history)
-FindGives history name (Err fault) new = new ≡ history
+FindGives history name (Err fault) new = IsSome (contents_of name history.log) × (new ≡ history)
 
 -- the FileId of this number can be used: it is live, and its file is there
 pub record CanUse (history : HistoryState) (place : ℕ) (file : OpenFile) : Type 0 where

@@ -6,7 +6,7 @@ use Rattle.std.proofs.lemmas.List.{length-take, get_or_append_left, get_or-appen
 use Rattle.std.proofs.lemmas.List.Elements.{All-head, All-tail}
 use Rattle.std.proofs.lemmas.Option.{none-some, cond_some}
 use Rattle.pos_edge.specs.View.{IsDisk}
-use Rattle.pos_edge.specs.Images.{written, IsOutside}
+use Rattle.pos_edge.specs.Images.{written, IsOutsideRange}
 use Rattle.pos_edge.specs.Log.{Event, File, state_of, contents_of, bytes_of, written_all, IsImage}
 use Rattle.pos_edge.specs.MemoryDisks.{DiskState, OpenFile, memory_view, live_of, size_in, holds, is_there, name_in}
 
@@ -14,7 +14,7 @@ use Rattle.pos_edge.specs.MemoryDisks.{DiskState, OpenFile, memory_view, live_of
 pub length-written_ge : (at : ℕ) (piece bytes : List ℕ) → length bytes ≤ length (written at piece bytes)
 length-written_ge at piece bytes = simp (length-append, length-take, length-drop) (omega arith)
 
-pub written-outside : (at : ℕ) (piece bytes : List ℕ) (k : ℕ) → k < length bytes → IsOutside at (length piece) k → slice_index (written at piece bytes) k ≡ slice_index bytes k
+pub written-outside : (at : ℕ) (piece bytes : List ℕ) (k : ℕ) → k < length bytes → IsOutsideRange at (length piece) k → slice_index (written at piece bytes) k ≡ slice_index bytes k
 written-outside at piece bytes k within (inl before) =
     get_or_append_left (take at bytes ++ piece) (drop (at + length piece) bytes) 0 k (simp (length-append, length-take) (omega arith))
     ∙ (get_or_append_left (take at bytes) piece 0 k (simp length-take (omega arith)) ∙ get_or-take at bytes k 0 before)
@@ -29,12 +29,12 @@ length-written_all_ge (w ∷ ws) bytes =
     let others = length-written_all_ge ws (written w.0 w.1 bytes) in
     omega arith
 
-pub written_all-outside : (writes : List (ℕ × List ℕ)) (bytes : List ℕ) (k : ℕ) → k < length bytes → All (λ write. IsOutside write.0 (length write.1) k) writes → slice_index (written_all writes bytes) k ≡ slice_index bytes k
+pub written_all-outside : (writes : List (ℕ × List ℕ)) (bytes : List ℕ) (k : ℕ) → k < length bytes → All (λ write. IsOutsideRange write.0 (length write.1) k) writes → slice_index (written_all writes bytes) k ≡ slice_index bytes k
 written_all-outside [] bytes k within out = refl
 written_all-outside (w ∷ ws) bytes k within out =
     let longer = length-written_ge w.0 w.1 bytes in
-    written_all-outside ws (written w.0 w.1 bytes) k (omega arith) (All-tail (λ write. IsOutside write.0 (length write.1) k) w ws out)
-    ∙ written-outside w.0 w.1 bytes k within (All-head (λ write. IsOutside write.0 (length write.1) k) w ws out)
+    written_all-outside ws (written w.0 w.1 bytes) k (omega arith) (All-tail (λ write. IsOutsideRange write.0 (length write.1) k) w ws out)
+    ∙ written-outside w.0 w.1 bytes k within (All-head (λ write. IsOutsideRange write.0 (length write.1) k) w ws out)
 
 -- what is there may be left
 pub image_now : (file : Option File) → IsImage file (option_map bytes_of file)

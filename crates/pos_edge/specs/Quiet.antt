@@ -53,13 +53,14 @@ quiet_is_disk disk = record {
   no_images = λ name t image silent is. is;
 }
 
--- The counts of a call that is no read.
+-- The counts of a call that is no read: one that went well, and one that failed.
 pub record QuietCall (old new : QuietState) : Type 0 where
-  pub faults : old.faults ≤ new.faults
+  pub faults : new.faults ≡ old.faults
   pub reads : new.reads ≡ old.reads
 
 pub record QuietFailed (old new : QuietState) : Type 0 where
-  pub call : QuietCall old new
+  pub faults : old.faults ≤ new.faults
+  pub reads : new.reads ≡ old.reads
   pub rose : Rose old.faults new.faults
 
 abbrev pub QuietCreates : QuietState → Result FileId CreateFault → QuietState → Type 0
@@ -76,7 +77,7 @@ QuietOpens old (Err OpenMemory) new = new ≡ old
 
 -- a read, by whether it went well
 abbrev pub QuietReads : QuietState → Result (Unit {0}) DiskFailed → QuietState → Type 0
-QuietReads old (Ok done) new = (old.faults ≤ new.faults) × (new.reads ≡ counted old.reads) × (new.sizes ≡ old.sizes)
+QuietReads old (Ok done) new = (new.faults ≡ old.faults) × (new.reads ≡ counted old.reads) × (new.sizes ≡ old.sizes)
 QuietReads old (Err fault) new = Rose old.faults new.faults × (old.faults ≤ new.faults) × (new.reads ≡ counted old.reads) × (new.sizes ≡ old.sizes)
 
 -- a write up to this end, through a FileId of this number and size

@@ -19,6 +19,10 @@ pub record ScratchState : Type 0 where
   pub made : ℕ
   pub left : List ScratchFile
 
+-- the name of one of these scratch files
+abbrev pub IsNameIn : List ℕ → List ScratchFile → List ℕ → Type 0
+IsNameIn base files name = Any (λ kept. name ≡ scratch_name base kept.number) files
+
 -- no file was made yet
 abbrev pub fresh_scratch : List ℕ → ScratchState
 fresh_scratch base = record { base = base; made = 0; left = [] }
@@ -44,14 +48,14 @@ abbrev pub IsLeft : ScratchState → ℕ → Type 0
 IsLeft scratch file = Any (λ kept. kept.file.0 ≡ file) scratch.left
 
 -- the first was made before the second, and has another FileId
-pub record AreApart (first second : ScratchFile) : Type 0 where
+pub record IsMadeBefore (first second : ScratchFile) : Type 0 where
   pub earlier : first.number < second.number
   pub ids : first.file.0 ≢ second.file.0
 
 -- each was made before those behind it, and no two are one
 abbrev pub AllApart : List ScratchFile → Type 0
 AllApart [] = Unit {0}
-AllApart (first ∷ others) = All (AreApart first) others × AllApart others
+AllApart (first ∷ others) = All (IsMadeBefore first) others × AllApart others
 
 -- A list of scratch files is on a disk: each is live and has the name of its number, and no two are one.
 pub record Stand (base : List ℕ) (made : ℕ) (left : List ScratchFile) (view : View) : Type 0 where

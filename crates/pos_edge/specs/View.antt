@@ -23,7 +23,7 @@ pub record View : Type 1 where
   pub image : List ℕ → ℕ → Option (List ℕ) → Type 0
 
 -- the FileId's file is there, and has the bytes that the FileId knows of
-pub record IsNamed (view : View) (file : ℕ) (name : List ℕ) : Type 0 where
+pub record HasFile (view : View) (file : ℕ) (name : List ℕ) : Type 0 where
   pub live : view.is_live file ≡ true
   pub there : (bytes : List ℕ) × (view.contents name ≡ Some bytes) × (view.size_of file ≤ length bytes)
 
@@ -31,7 +31,7 @@ pub record IsNamed (view : View) (file : ℕ) (name : List ℕ) : Type 0 where
 pub record IsDisk (view : View) : Type 0 where
   -- a disk that tells images tells contents
   pub images_told : view.tells_images ≡ true → view.tells ≡ true
-  pub named : (file : ℕ) (name : List ℕ) → view.name_of file ≡ Some name → IsNamed view file name
+  pub named : (file : ℕ) (name : List ℕ) → view.name_of file ≡ Some name → HasFile view file name
   -- the contents are one of the images
   pub contents_image : (name : List ℕ) → view.tells_images ≡ true → view.image name view.clock (view.contents name)
   -- a name that is not there has the one image "absent"

@@ -2,7 +2,7 @@
 ghost use Rattle.std.specs.Prelude.{◌≡◌, ◌+◌, ◌^◌, ◌<◌, ◌≤◌, length, IsTrue, IsErrOf, IfOk, OnOk, OnErr};
 ghost use Rattle.pos_edge.specs.Faults.{Rose, counted};
 ghost use Rattle.pos_edge.specs.View.{View, IsDisk};
-ghost use Rattle.pos_edge.specs.Frame.{ChangesOnly, ChangesFile, KeepsIds, IsUntouched, Nothing, Just, NameOf};
+ghost use Rattle.pos_edge.specs.Frame.{ChangesOnly, ChangesFile, KeepsIds, SameFaults, SameFaultsBut, IsUntouched, Nothing, Just, NameOf};
 ghost use Rattle.pos_edge.specs.Images.{ImagesBy, Tears, Stays, MayVanish};
 ghost use Rattle.pos_edge.specs.Calls.{IsThere, WasThere, WasAbsent, IsCreated, IsHalfCreated, IsOpened, AreBytesAt, IsWritten, IsHalfWritten, SameContents, IsSynced, Ends, IsGone, IsAsItWasOrGone};
 
@@ -54,7 +54,8 @@ pub trait Disk {
             → WasThere name.now (view self.old) × IsUntouched (view self.old) (view self.new) }
         ensures failed { IsErrOf result CreateFault.Failed
             → IsHalfCreated name.now (view self.old) (view self.new) }
-        ensures memory { IsErrOf result CreateFault.Memory → IsUntouched (view self.old) (view self.new) };
+        ensures memory { IsErrOf result CreateFault.Memory → IsUntouched (view self.old) (view self.new) }
+        ensures quiet { SameFaultsBut CreateFault.Failed result (view self.old) (view self.new) };
 
     /// Opens a file that is there. `Absent` where the name is not there. A refusal changes no file.
     fn open(&mut self, name: &str) -> Result<FileId, OpenFault>
@@ -65,7 +66,8 @@ pub trait Disk {
             → WasAbsent name.now (view self.old) × IsUntouched (view self.old) (view self.new) }
         ensures failed { IsErrOf result OpenFault.Failed
             → Rose (view self.old).faults (view self.new).faults × KeepsIds Nothing (view self.old) (view self.new) }
-        ensures memory { IsErrOf result OpenFault.Memory → IsUntouched (view self.old) (view self.new) };
+        ensures memory { IsErrOf result OpenFault.Memory → IsUntouched (view self.old) (view self.new) }
+        ensures quiet { SameFaultsBut OpenFault.Failed result (view self.old) (view self.new) };
 
     /// How many bytes the file had when the `FileId` was given, raised by the writes through it.
     /// Takes no memory.
@@ -84,7 +86,8 @@ pub trait Disk {
         ensures reads { (view self.new).reads ≡ counted (view self.old).reads }
         ensures ids { KeepsIds Nothing (view self.old) (view self.new) }
         ensures ok { OnOk result (AreBytesAt file.0 at buf.new (view self.old)) }
-        ensures failed { OnErr result (Rose (view self.old).faults (view self.new).faults) };
+        ensures failed { OnErr result (Rose (view self.old).faults (view self.new).faults) }
+        ensures quiet { OnOk result (SameFaults (view self.old) (view self.new)) };
 
     /// Writes a piece over what is there, and past the end. Until a sync, a crash may leave any bytes in its range.
     fn write_at(&mut self, file: FileId, at: u64, bytes: &[u8]) -> Result<(), WriteFault>
@@ -99,7 +102,8 @@ pub trait Disk {
         ensures ok { OnOk result (IsWritten file.0 at bytes.now (view self.old) (view self.new)) }
         ensures failed { IsErrOf result WriteFault.Failed
             → IsHalfWritten file.0 at (length bytes.now) (view self.old) (view self.new) }
-        ensures memory { IsErrOf result WriteFault.Memory → IsUntouched (view self.old) (view self.new) };
+        ensures memory { IsErrOf result WriteFault.Memory → IsUntouched (view self.old) (view self.new) }
+        ensures quiet { SameFaultsBut WriteFault.Failed result (view self.old) (view self.new) };
 
     /// After it, a crash leaves what the file holds. Changes no contents, and takes no memory.
     fn sync(&mut self, file: FileId) -> Result<(), DiskFailed>
@@ -111,7 +115,8 @@ pub trait Disk {
         ensures contents { SameContents (view self.old) (view self.new) }
         ensures images { ImagesBy Stays file.0 (view self.old) (view self.new) }
         ensures ok { OnOk result (IsSynced file.0 (view self.new)) }
-        ensures failed { OnErr result (Rose (view self.old).faults (view self.new).faults) };
+        ensures failed { OnErr result (Rose (view self.old).faults (view self.new).faults) }
+        ensures quiet { OnOk result (SameFaults (view self.old) (view self.new)) };
 
     /// Removes the file, and ends the `FileId` whatever it answers. Takes no memory.
     fn remove(&mut self, file: FileId) -> Result<(), DiskFailed>
@@ -123,7 +128,8 @@ pub trait Disk {
         ensures images { ImagesBy MayVanish file.0 (view self.old) (view self.new) }
         ensures ok { OnOk result (IsGone file.0 (view self.old) (view self.new)) }
         ensures failed { OnErr result (Rose (view self.old).faults (view self.new).faults) }
-        ensures left { IsAsItWasOrGone file.0 (view self.old) (view self.new) };
+        ensures left { IsAsItWasOrGone file.0 (view self.old) (view self.new) }
+        ensures quiet { OnOk result (SameFaults (view self.old) (view self.new)) };
 
     /// What holds of every disk between two calls.
     ghost is_disk: { (disk : Self) → IsDisk (view disk) };

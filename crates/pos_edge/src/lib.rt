@@ -1,24 +1,24 @@
-//! The outside as the program meets it: files and output. Each trait carries its whole meaning, and a double in memory meets it.
+//! The outside as the program meets it: files and output.
+//!
+//! The traits `Disk` and `Sink` carry their whole meaning: what each call does to files, to what a crash may leave of
+//! them and to the count of faults, by its answer. `Scratch` makes and removes the files that some work needs for a time.
+//! The doubles in memory meet the traits and tell everything. What several calls leave as it was is said by the frames
+//! `ChangesOnly` and `ChangesFile`, what work on scratch files did by `IsScratchWork` and `IsScratchDone`.
 #![tactic(auto)]
 
-mod blank_disk;
 mod disk;
-mod history;
-mod memory_disk;
+mod doubles;
 mod scratch;
 mod sink;
 
-pub use blank_disk::BlankDisk;
 pub use disk::{CreateFault, Disk, DiskFailed, FileId, MAX_READ, OpenFault, WriteFault};
-pub use memory_disk::MemoryDisk;
+pub use doubles::{BlankDisk, MemoryDisk, MemorySink};
 pub use scratch::{MAX_SCRATCH_FILES, Scratch, ScratchDamage, ScratchFile, WorkFault};
-pub use sink::{MemorySink, PutFailed, Sink};
+pub use sink::{PutFailed, Sink};
 
 /// What a call answers that needed more memory than there was.
 #[derive(Clone, Copy, Debug, PartialEq, Eq)]
 pub struct Memory;
 
-#[cfg(test)]
-mod client;
 #[cfg(test)]
 mod tests;

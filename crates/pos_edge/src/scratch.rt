@@ -1,10 +1,10 @@
 // Files for the time of some work, named by a base and a number, each name made once.
 ghost use Rattle.std.specs.Prelude.{◌≡◌, ◌<◌, ◌==◌, not, filter, IsTrue, IsErrOf, IfOk, IfErr, OnOk, OnErr, string_bytes};
 ghost use Rattle.pos_edge.specs.Faults.{Rose};
-ghost use Rattle.pos_edge.specs.Frame.{ChangesOnly, IsUntouched, Nothing, Just, NameOf};
+ghost use Rattle.pos_edge.specs.Frame.{ChangesOnly, SameFaults, SameFaultsBut, IsUntouched, Nothing, Just, NameOf};
 ghost use Rattle.pos_edge.specs.Images.{ImagesBy, MayVanish};
 ghost use Rattle.pos_edge.specs.Calls.{IsThere, WasThere, IsCreated, IsHalfCreated, Ends, IsGone, IsAsItWasOrGone};
-ghost use Rattle.pos_edge.specs.ScratchNames.{fresh_scratch, next_name, with_file, without_file, without_files, IsLeft, StandsOn, IsScratchName, SameOrGone, AreGone, EndsAll};
+ghost use Rattle.pos_edge.specs.ScratchNames.{fresh_scratch, next_name, with_file, without_file, without_files, IsLeft, StandsOn, IsNameIn, SameOrGone, AreGone, EndsAll};
 
 use crate::{CreateFault, Disk, FileId, Memory};
 use std::alloc::Global;
@@ -94,6 +94,7 @@ impl Scratch {
             → IsHalfCreated (next_name self.old) (D.view disk.old) (D.view disk.new) }
         ensures no_damage { (damage : _) → IsErrOf result (WorkFault.Scratch damage) → ⊥ }
         ensures memory { IsErrOf result WorkFault.Memory → IsUntouched (D.view disk.old) (D.view disk.new) }
+        ensures quiet { SameFaultsBut WorkFault.DiskFailed result (D.view disk.old) (D.view disk.new) }
         ensures stands { StandsOn self.old (D.view disk.old) → StandsOn self.new (D.view disk.new) }
     {
         self.left.reserve(1).map_err(|_| WorkFault::Memory)?;
@@ -126,6 +127,7 @@ impl Scratch {
         ensures images { ImagesBy MayVanish file.0 (D.view disk.old) (D.view disk.new) }
         ensures ok { OnOk result (IsGone file.0 (D.view disk.old) (D.view disk.new)) }
         ensures failed { OnErr result (Rose (D.view disk.old).faults (D.view disk.new).faults) }
+        ensures quiet { OnOk result (SameFaults (D.view disk.old) (D.view disk.new)) }
         ensures was_or_gone { IsAsItWasOrGone file.0 (D.view disk.old) (D.view disk.new) }
         ensures fault { IfErr result (λ fault. fault ≡ WorkFault.DiskFailed) }
         ensures stands { StandsOn self.old (D.view disk.old) → StandsOn self.new (D.view disk.new) }
@@ -138,11 +140,12 @@ impl Scratch {
     pub fn clear<D: Disk>(&mut self, disk: &mut D) -> Result<(), WorkFault>
         requires { StandsOn self.old (D.view disk.old) }
         ensures left { self.new ≡ without_files self.old }
-        ensures kept { ChangesOnly (IsScratchName self.old.base) (IsLeft self.old) (D.view disk.old) (D.view disk.new) }
+        ensures kept { ChangesOnly (IsNameIn self.old.base self.old.left) (IsLeft self.old) (D.view disk.old) (D.view disk.new) }
         ensures reads { (D.view disk.new).reads ≡ (D.view disk.old).reads }
         ensures ends { EndsAll self.old (D.view disk.old) (D.view disk.new) }
         ensures ok { OnOk result (AreGone self.old (D.view disk.new)) }
         ensures failed { OnErr result (Rose (D.view disk.old).faults (D.view disk.new).faults) }
+        ensures quiet { OnOk result (SameFaults (D.view disk.old) (D.view disk.new)) }
         ensures was_or_gone { SameOrGone (D.view disk.old) (D.view disk.new) }
         ensures fault { IfErr result (λ fault. fault ≡ WorkFault.DiskFailed) }
     {

@@ -1,7 +1,9 @@
-use crate::client::{write_gated, write_in_turns, write_synced};
+ghost use Rattle.std.specs.Prelude.{◌+◌, ◌≤◌, OnOk};
+ghost use Rattle.pos_edge.specs.ScratchNames.{StandsOn};
+
 use crate::{
-    BlankDisk, CreateFault, Disk, Memory, MemoryDisk, MemorySink, OpenFault, PutFailed, Scratch,
-    Sink, WorkFault,
+    BlankDisk, CreateFault, Disk, MAX_SCRATCH_FILES, Memory, MemoryDisk, MemorySink, OpenFault,
+    PutFailed, Scratch, Sink, WorkFault,
 };
 use std::test::Fail;
 
@@ -69,7 +71,8 @@ fn images_have_the_synced_bytes_and_the_later_writes(rt: HostRuntime) -> Result<
     let mut disk = MemoryDisk::new(alloc, Vec::new(alloc));
     let file = disk.create("p").map_err(|_| Memory)?;
     assert_eq!(rt; disk.image(alloc, "p", 0)?, None);
-    write_synced(&mut disk, file, 0, &[0]).map_err(|_| Memory)?;
+    disk.write_at(file, 0, &[0]).map_err(|_| Memory)?;
+    disk.sync(file).map_err(|_| Memory)?;
     disk.write_at(file, 1, b"ab").map_err(|_| Memory)?;
     disk.write_at(file, 0, &[1]).map_err(|_| Memory)?;
     for (writes, want) in [
@@ -98,25 +101,35 @@ fn a_blank_disk_reads_zeros(rt: HostRuntime) -> Result<(), Fail> {
     Ok(())
 }
 
-#[test]
-fn a_gated_file_is_whole_in_its_only_image(rt: HostRuntime) -> Result<(), Fail> {
-    let alloc = rt.alloc();
-    let mut disk = MemoryDisk::new(alloc, Vec::new(alloc));
-    write_gated(&mut disk, "p", b"body").map_err(|_| Memory)?;
-    assert_eq!(rt; disk.calls(), 7);
-    let image = disk.image(alloc, "p", 0)?.ok_or("no file")?;
-    assert_eq!(rt; image.as_slice(), b"\x01body".as_slice());
+// Makes so many scratch files.
+fn make_files<D: Disk>(scratch: &mut Scratch, disk: &mut D, count: u32) -> Result<(), WorkFault>
+    requires room { scratch.old.made + count ≤ MAX_SCRATCH_FILES }
+    requires stands { StandsOn scratch.old (D.view disk.old) }
+    ensures stands { OnOk result (StandsOn scratch.new (D.view disk.new)) }
+{
+    for _i in 0..count {
+        scratch.create(disk)?;
+    }
     Ok(())
 }
 
 #[test]
-fn two_files_in_turns_keep_what_each_was_given(rt: HostRuntime) -> Result<(), Fail> {
+fn a_hundred_and_one_scratch_files_are_cleared(rt: HostRuntime) -> Result<(), Fail> {
     let alloc = rt.alloc();
-    let mut disk = BlankDisk::new(alloc);
-    let first = disk.create("a").map_err(|_| Memory)?;
-    let second = disk.create("b").map_err(|_| Memory)?;
-    write_in_turns(&mut disk, first, second, b"abc").map_err(|_| Memory)?;
-    assert_eq!(rt; disk.size(first), 3);
-    assert_eq!(rt; disk.size(second), 3);
+    let mut disk = MemoryDisk::new(alloc, Vec::new(alloc));
+    disk.add("s.101", b"kept")?;
+    let mut scratch = Scratch::new(alloc, "s")?;
+    make_files(&mut scratch, &mut disk, 101)?;
+    assert_eq!(rt; scratch.made(), 101);
+    for name in ["s.0", "s.9", "s.10", "s.99", "s.100"] {
+        let made = disk.contents(name).ok_or("absent")?;
+        assert!(rt; made.is_empty(), "{name}");
+    }
+    assert_eq!(rt; scratch.clear(&mut disk), Ok(()));
+    for name in ["s.0", "s.9", "s.10", "s.99", "s.100"] {
+        assert_eq!(rt; disk.contents(name), None, "{name}");
+    }
+    let kept = disk.contents("s.101").ok_or("absent")?;
+    assert_eq!(rt; kept, b"kept".as_slice());
     Ok(())
 }

@@ -1,6 +1,7 @@
 -- Each file is removed in turn, and those before it still stand.
 use Rattle.std.proofs.Common.{◌≡◌, ◌++◌, ◌∷◌, [], refl, sym, rules, ap, ◌∙◌, append-nil, append_assoc}
 use Rattle.pos_edge.specs.Faults.{Rose}
+use Rattle.pos_edge.specs.Frame.{SameFaults}
 use Rattle.pos_edge.specs.Calls.{IsGone}
 use Rattle.pos_edge.specs.ScratchNames.{Stand}
 use Rattle.pos_edge.proofs.ScratchFiles.{cleared_none, cleared_more, Stand-pop, at_is_ok, at_is_err}
@@ -25,6 +26,7 @@ loop-last-preserved g c =
     let s : Stand base made (left ++ file ∷ []) b = rw popped at c.loop-last.invariant.3 in
     let after = cleared_more base made left was.0 file c.loop-last.all c.is_ok-removed.result a b d (g.met.D.Disk.is_disk c.loop-last.disk) (g.met.D.Disk.is_disk c.remove.new.self) s was.2 c.remove.ensures.kept c.remove.ensures.reads c.remove.ensures.ends
     (at_is_ok (IsGone file.file.0 b d) c.remove.result c.is_ok-removed.result c.is_ok-removed.ensures.value c.remove.ensures.ok)
+    (at_is_ok (SameFaults b d) c.remove.result c.is_ok-removed.result c.is_ok-removed.ensures.value c.remove.ensures.quiet)
     (at_is_err (Rose b.faults d.faults) c.remove.result c.is_ok-removed.result c.is_ok-removed.ensures.value c.remove.ensures.failed)
     c.remove.ensures.left in (
       c.loop-last.invariant.0,
