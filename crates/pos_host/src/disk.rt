@@ -3,26 +3,23 @@ ghost use Rattle.std.specs.Prelude.{◌≡◌, ◌+◌, ◌<◌, ◌≤◌, ◌^
 ghost use Rattle.pos_host.specs.Handles.{sizes_of};
 ghost use Rattle.pos_edge.specs.Quiet.{quiet_view, quiet_is_disk, live_in, known_size, QuietCreates, QuietOpens, QuietReads, QuietWrites, QuietSyncs, QuietRemoves};
 
+use crate::open::{HostFile, create_new, is_folder_synced, open_to_read};
 use pos_edge::{CreateFault, Disk, DiskFailed, FileId, OpenFault, WriteFault};
 use std::alloc::Global;
 use std::fs;
-use std::fs::{File, OpenFile, OpenOptions};
+use std::fs::File;
 use std::io::ErrorKind;
 use std::marker::Model;
 use std::os::unix::fs::FileExt;
-use std::path::Path;
 use std::rt::Files;
 
-// An open file, its name, and how many bytes it had when it was opened, raised by the writes through it.
-#[derive(Drop)]
-struct HostFile {
-    file: File,
-    name: String,
-    size: u64,
-}
-
-/// Real files, by their paths. It tells no contents, names or images. A sync and a removal sync the folder
-/// too, since else a new file may be absent after a crash and a removed one return.
+/// Real files, by their paths. It tells no contents, names or images.
+///
+/// - `create` makes a file that may be written; `open` opens one for reads alone, so nothing is written to a file that
+///   the disk did not make: a write to another fails, and counts as a fault.
+/// - What is no plain file, as a folder, a fifo or a device, is not opened: `open` answers `Failed`.
+/// - A sync and a removal sync the folder too, since else a new file may be absent after a crash and a removed one return.
+/// - Once a sync has failed each later one fails: the system may have dropped what was to be written, and says so once.
 #[derive(Drop)]
 pub struct HostDisk<'a, R: Files<File = File>> {
     rt: &'a R,
@@ -30,6 +27,7 @@ pub struct HostDisk<'a, R: Files<File = File>> {
     handles: Vec<Option<HostFile>>,
     faults: u64,
     reads: u64,
+    is_sync_lost: bool,
 }
 
 impl<'a, R: Files<File = File>> Model for HostDisk<'a, R> {
@@ -52,6 +50,7 @@ impl<'a, R: Files<File = File>> HostDisk<'a, R> {
             handles: Vec::new(alloc),
             faults: 0,
             reads: 0,
+            is_sync_lost: false,
         }
     }
 
@@ -64,8 +63,8 @@ impl<'a, R: Files<File = File>> HostDisk<'a, R> {
         let Ok(text) = String::from_str(self.alloc, name) else {
             return Err(CreateFault::Memory);
         };
-        match create_new(self.rt, name) {
-            Ok(file) => Ok(FileId(give(&mut self.handles, file, text, 0))),
+        match create_new(self.rt, text) {
+            Ok(open) => Ok(FileId(give(&mut self.handles, open))),
             Err(ErrorKind::AlreadyExists) => Err(CreateFault::Exists),
             Err(_) => {
                 self.faults = self.faults.saturating_add(1);
@@ -83,8 +82,8 @@ impl<'a, R: Files<File = File>> HostDisk<'a, R> {
         let Ok(text) = String::from_str(self.alloc, name) else {
             return Err(OpenFault::Memory);
         };
-        match open_existing(self.rt, name) {
-            Ok((file, size)) => Ok(FileId(give(&mut self.handles, file, text, size))),
+        match open_to_read(self.rt, text) {
+            Ok(open) => Ok(FileId(give(&mut self.handles, open))),
             Err(ErrorKind::NotFound) => Err(OpenFault::Absent),
             Err(_) => {
                 self.faults = self.faults.saturating_add(1);
@@ -136,9 +135,10 @@ impl<'a, R: Files<File = File>> HostDisk<'a, R> {
             Some(open) => open.file.sync_all().is_ok() && is_folder_synced(self.rt, &open.name),
             None => false,
         };
-        if is_synced {
+        if is_synced && !self.is_sync_lost {
             return Ok(());
         }
+        self.is_sync_lost = true;
         self.faults = self.faults.saturating_add(1);
         Err(DiskFailed)
     }
@@ -147,64 +147,30 @@ impl<'a, R: Files<File = File>> HostDisk<'a, R> {
         requires { IsTrue (live_in (slice_get self.old.sizes id)) }
         ensures { QuietRemoves self.old id result self.new }
     {
-        let is_removed = match end(&mut self.handles, id as usize) {
-            Some(open) => is_removed(self.rt, &open.name),
-            None => false,
+        let Some(open) = end(&mut self.handles, id as usize) else {
+            self.faults = self.faults.saturating_add(1);
+            return Err(DiskFailed);
         };
-        if is_removed {
+        let is_removed = fs::remove_file(self.rt, open.name.as_str()).is_ok();
+        let is_synced = is_folder_synced(self.rt, &open.name);
+        if is_removed && is_synced {
             return Ok(());
         }
+        // A folder that was not synced may lack the names of other files too.
+        self.is_sync_lost |= !is_synced;
         self.faults = self.faults.saturating_add(1);
         Err(DiskFailed)
     }
 }
 
-// Makes an empty file, where no file or folder has the name.
-fn create_new<R: Files<File = File>>(rt: &R, name: &str) -> Result<File, ErrorKind> {
-    let mut how = OpenOptions::new();
-    how.read(true).write(true).create_new(true);
-    how.open(rt, name).map_err(|e| e.kind())
-}
-
-// Opens a file for reads and writes, or for reads alone where no more is permitted, and measures it.
-fn open_existing<R: Files<File = File>>(rt: &R, name: &str) -> Result<(File, u64), ErrorKind> {
-    let mut how = OpenOptions::new();
-    how.read(true).write(true);
-    let file = match how.open(rt, name) {
-        Ok(file) => file,
-        Err(e) if e.kind() == ErrorKind::PermissionDenied => {
-            File::open(rt, name).map_err(|e| e.kind())?
-        }
-        Err(e) => return Err(e.kind()),
-    };
-    let size = file.metadata().map_err(|e| e.kind())?.len();
-    Ok((file, size))
-}
-
-fn is_removed<R: Files>(rt: &R, name: &str) -> bool {
-    fs::remove_file(rt, name).is_ok() && is_folder_synced(rt, name)
-}
-
-// Syncs the folder that the file is in.
-fn is_folder_synced<R: Files>(rt: &R, name: &str) -> bool {
-    let folder = match Path::new(name).parent() {
-        Some(parent) if !parent.as_str().is_empty() => parent,
-        _ => Path::new("."),
-    };
-    match fs::open(rt, folder) {
-        Ok(folder) => folder.sync_all().is_ok(),
-        Err(_) => false,
-    }
-}
-
 // One more open file, for which there is room. Its place is its number.
-fn give(handles: &mut Vec<Option<HostFile>>, file: File, name: String, size: u64) -> u64
+fn give(handles: &mut Vec<Option<HostFile>>, file: HostFile) -> u64
     requires { vec_len handles.old < vec_capacity handles.old }
     ensures id { result ≡ length handles.old.items }
-    ensures sizes { sizes_of handles.new.items ≡ sizes_of handles.old.items ++ Some size ∷ [] }
+    ensures sizes { sizes_of handles.new.items ≡ sizes_of handles.old.items ++ Some file.size ∷ [] }
 {
     let id = handles.len() as u64;
-    if handles.push(Some(HostFile { file, name, size })).is_err() {
+    if handles.push(Some(file)).is_err() {
         unreachable!();
     }
     id

@@ -2,6 +2,7 @@
 #![tactic(auto)]
 
 mod disk;
+mod open;
 mod sink;
 
 pub use disk::HostDisk;

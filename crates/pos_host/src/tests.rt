@@ -1,16 +1,20 @@
+//! Real files and a real output: what no clause can say of them.
+
 use crate::{HostDisk, HostSink};
-use pos_edge::{CreateFault, Disk, OpenFault, PutFailed, Sink, WorkFault};
+use pos_edge::{CreateFault, Disk, DiskFailed, OpenFault, PutFailed, Sink, WorkFault, WriteFault};
 use std::alloc::Global;
-use std::fs::File;
+use std::fs::{File, Permissions};
 use std::io::{ErrorKind, Write};
+use std::os::unix::fs::{MetadataExt, PermissionsExt, symlink};
 use std::rt::Files;
 use std::test::Fail;
 use std::{fs, io};
 
-// Takes one byte a call, and is interrupted first. Once it has as many as it takes, it takes none.
+// Takes one byte a call, and is interrupted first. Once it has as many as it takes, it errs, or takes none.
 struct Slow<'a> {
     taken: &'a mut Vec<u8>,
     most: usize,
+    errs: bool,
     interrupted: bool,
 }
 
@@ -19,6 +23,7 @@ impl Drop for Slow<'_> {
         let Slow {
             taken: _,
             most: _,
+            errs: _,
             interrupted: _,
         } = self;
     }
@@ -29,6 +34,9 @@ impl Write for Slow<'_> {
         if !self.interrupted {
             self.interrupted = true;
             return Err(io::Error::from(ErrorKind::Interrupted));
+        }
+        if self.taken.len() >= self.most && self.errs {
+            return Err(io::Error::from(ErrorKind::StorageFull));
         }
         if buf.is_empty() || self.taken.len() >= self.most {
             return Ok(0);
@@ -46,45 +54,69 @@ impl Write for Slow<'_> {
 
 #[test]
 fn a_piece_goes_to_standard_output(rt: HostRuntime) -> Result<(), Fail> {
-    let mut sink = HostSink::new(io::writer(&rt));
+    let mut sink = HostSink::new(io::writer(&rt))?;
     sink.put(b"opens\n")?;
     Ok(())
 }
 
 #[test]
-fn a_writer_of_few_bytes_is_asked_again_until_it_takes_none(rt: HostRuntime) -> Result<(), Fail> {
-    let mut taken = Vec::new(rt.alloc());
-    let mut sink = HostSink::new(Slow {
-        taken: &mut taken,
-        most: 5,
-        interrupted: false,
-    });
-    assert_eq!(rt; sink.put(b"abc"), Ok(()));
-    assert_eq!(rt; sink.put(b"def"), Err(PutFailed));
-    drop(sink);
-    assert_eq!(rt; taken.as_slice(), b"abcde".as_slice());
+fn a_writer_of_few_bytes_is_asked_again_until_it_takes_none_or_errs(
+    rt: HostRuntime,
+) -> Result<(), Fail> {
+    for errs in [false, true] {
+        let mut taken = Vec::new(rt.alloc());
+        let mut sink = HostSink::new(Slow {
+            taken: &mut taken,
+            most: 5,
+            errs,
+            interrupted: false,
+        })?;
+        assert_eq!(rt; sink.put(b"abc"), Ok(()));
+        assert_eq!(rt; sink.put(b"def"), Err(PutFailed));
+        drop(sink);
+        assert_eq!(rt; taken.as_slice(), b"abcde".as_slice());
+    }
     Ok(())
 }
 
-// Writes, syncs, reads back, and removes a file of this name in the folder that the test runs in.
+#[test]
+fn a_writer_that_errs_at_once_is_no_sink(rt: HostRuntime) -> Result<(), Fail> {
+    let mut taken = Vec::new(rt.alloc());
+    let sink = HostSink::new(Slow {
+        taken: &mut taken,
+        most: 0,
+        errs: true,
+        interrupted: false,
+    });
+    assert!(rt; sink.is_err());
+    Ok(())
+}
+
+// Writes "plot file" in two pieces that overlap, syncs, reads four bytes at offset 3, and removes the file.
 fn round_trip<R: Files<File = File>>(
     rt: &R,
     alloc: Global,
     name: &str,
     got: &mut [u8; 4],
-) -> Result<(), WorkFault> {
+) -> Result<u64, WorkFault> {
     let mut disk = HostDisk::new(rt, alloc);
     let file = disk.create(name).map_err(|_| WorkFault::DiskFailed)?;
-    disk.write_at(file, 0, b"plot")
+    disk.write_at(file, 0, b"plot tale")
+        .map_err(|_| WorkFault::DiskFailed)?;
+    disk.write_at(file, 5, b"fi")
+        .map_err(|_| WorkFault::DiskFailed)?;
+    disk.write_at(file, 7, b"les")
         .map_err(|_| WorkFault::DiskFailed)?;
     disk.sync(file).map_err(|_| WorkFault::DiskFailed)?;
     let again = disk.open(name).map_err(|_| WorkFault::DiskFailed)?;
-    if disk.size(again) < 4 {
+    let size = disk.size(again);
+    if size != disk.size(file) || size < 7 {
         return Err(WorkFault::DiskFailed);
     }
-    disk.read_at(again, 0, got)
+    disk.read_at(again, 3, got)
         .map_err(|_| WorkFault::DiskFailed)?;
-    disk.remove(file).map_err(|_| WorkFault::DiskFailed)
+    disk.remove(file).map_err(|_| WorkFault::DiskFailed)?;
+    Ok(size)
 }
 
 #[test]
@@ -92,31 +124,82 @@ fn a_real_file_is_written_read_back_and_removed(rt: HostRuntime) -> Result<(), F
     let mut got = [0; 4];
     assert_eq!(rt;
         round_trip(&rt, rt.alloc(), "pos_host_round_trip", &mut got),
-        Ok(())
+        Ok(10)
     );
-    assert_eq!(rt; got.as_slice(), b"plot".as_slice());
+    assert_eq!(rt; got.as_slice(), b"t fi".as_slice());
     let mut disk = HostDisk::new(&rt, rt.alloc());
     assert_eq!(rt; disk.open("pos_host_round_trip"), Err(OpenFault::Absent));
     Ok(())
 }
 
 #[test]
-fn a_name_that_is_there_is_not_opened_anew(rt: HostRuntime) -> Result<(), Fail> {
+fn a_file_that_was_not_made_is_only_read(rt: HostRuntime) -> Result<(), Fail> {
     let mut disk = HostDisk::new(&rt, rt.alloc());
-    fs::write(&rt, "pos_host_there", b"kept")?;
-    assert_eq!(rt; disk.create("pos_host_there"), Err(CreateFault::Exists));
-    assert_eq!(rt; fs::read_to_string(&rt, "pos_host_there")?.as_str(), "kept");
-    fs::remove_file(&rt, "pos_host_there")?;
+    fs::write(&rt, "pos_host_read", b"kept")?;
+    for mode in [0o644, 0o444] {
+        fs::set_permissions(&rt, "pos_host_read", Permissions::from_mode(mode))?;
+        let file = disk.open("pos_host_read").map_err(|_| "not opened")?;
+        assert_eq!(rt; disk.size(file), 4);
+        assert_eq!(rt; disk.write_at(file, 0, b"lost"), Err(WriteFault::Failed));
+        assert_eq!(rt; disk.sync(file), Ok(()));
+        assert_eq!(rt; fs::read_to_string(&rt, "pos_host_read")?.as_str(), "kept");
+    }
+    fs::remove_file(&rt, "pos_host_read")?;
+    Ok(())
+}
+
+// Permissions don't bind root, who owns the files of his processes.
+#[test]
+fn a_file_without_permission_is_not_opened(rt: HostRuntime) -> Result<(), Fail> {
+    let mut disk = HostDisk::new(&rt, rt.alloc());
+    let is_root = fs::metadata(&rt, "/proc/self")?.uid() == 0;
+    fs::write(&rt, "pos_host_hidden", b"kept")?;
+    fs::set_permissions(&rt, "pos_host_hidden", Permissions::from_mode(0))?;
+    let opened = disk.open("pos_host_hidden");
+    assert!(rt; is_root || opened == Err(OpenFault::Failed));
+    fs::remove_file(&rt, "pos_host_hidden")?;
     Ok(())
 }
 
 #[test]
-fn a_folder_is_no_file(rt: HostRuntime) -> Result<(), Fail> {
+fn a_name_that_is_there_is_not_opened_anew(rt: HostRuntime) -> Result<(), Fail> {
+    let mut disk = HostDisk::new(&rt, rt.alloc());
+    fs::write(&rt, "pos_host_taken", b"kept")?;
+    assert_eq!(rt; disk.create("pos_host_taken"), Err(CreateFault::Exists));
+    assert_eq!(rt; fs::read_to_string(&rt, "pos_host_taken")?.as_str(), "kept");
+    fs::remove_file(&rt, "pos_host_taken")?;
+    Ok(())
+}
+
+#[test]
+fn a_folder_and_a_device_are_no_files(rt: HostRuntime) -> Result<(), Fail> {
     let mut disk = HostDisk::new(&rt, rt.alloc());
     fs::create_dir(&rt, "pos_host_folder")?;
-    assert_eq!(rt; disk.create("pos_host_folder"), Err(CreateFault::Exists));
-    assert_eq!(rt; disk.open("pos_host_folder"), Err(OpenFault::Failed));
+    symlink(&rt, "/dev/zero", "pos_host_device")?;
+    for name in ["pos_host_folder", "pos_host_device", "/dev/zero"] {
+        assert_eq!(rt; disk.create(name), Err(CreateFault::Exists));
+        assert_eq!(rt; disk.open(name), Err(OpenFault::Failed));
+    }
+    assert_eq!(rt; disk.open("pos_host_folder/p"), Err(OpenFault::Absent));
+    fs::remove_file(&rt, "pos_host_device")?;
     fs::remove_dir(&rt, "pos_host_folder")?;
+    assert_eq!(rt; disk.create("pos_host_folder/p"), Err(CreateFault::Failed));
+    Ok(())
+}
+
+// The folder is away at the first sync of a file in it, and there at the second.
+#[test]
+fn each_sync_after_a_failed_one_fails(rt: HostRuntime) -> Result<(), Fail> {
+    let mut disk = HostDisk::new(&rt, rt.alloc());
+    fs::create_dir(&rt, "pos_host_away")?;
+    let file = disk.create("pos_host_away/p").map_err(|_| "not created")?;
+    assert_eq!(rt; disk.sync(file), Ok(()));
+    fs::rename(&rt, "pos_host_away", "pos_host_there")?;
+    assert_eq!(rt; disk.sync(file), Err(DiskFailed));
+    fs::rename(&rt, "pos_host_there", "pos_host_away")?;
+    assert_eq!(rt; disk.sync(file), Err(DiskFailed));
+    assert_eq!(rt; disk.remove(file), Ok(()));
+    fs::remove_dir(&rt, "pos_host_away")?;
     Ok(())
 }
 

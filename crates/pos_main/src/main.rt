@@ -5,18 +5,28 @@
 use pos_app::run;
 use pos_host::{HostDisk, HostSink};
 use std::io;
+use std::io::ErrorKind;
 use std::process::ExitCode;
 use std::rt::Env;
+
+// The status where standard output is not there.
+const SINK_FAULT: u8 = 7;
 
 // The status where there is no memory for the words.
 const OUT_OF_MEMORY: u8 = 9;
 
 fn main(rt: HostRuntime) -> ExitCode {
-    let Ok(words) = words_of(&rt) else {
-        return ExitCode::from(OUT_OF_MEMORY);
+    let words = match words_of(&rt) {
+        Ok(words) => words,
+        // A word that is no text is no command, and nor are no words.
+        Err(e) if e.kind() == ErrorKind::InvalidData => Vec::new(rt.alloc()),
+        Err(_) => return ExitCode::from(OUT_OF_MEMORY),
+    };
+    // Standard output is tried before any file is opened.
+    let Ok(mut out) = HostSink::new(io::writer(&rt)) else {
+        return ExitCode::from(SINK_FAULT);
     };
     let mut disk = HostDisk::new(&rt, rt.alloc());
-    let mut out = HostSink::new(io::writer(&rt));
     ExitCode::from(run(rt.alloc(), words.as_slice(), &mut disk, &mut out))
 }
 

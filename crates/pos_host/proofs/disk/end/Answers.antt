@@ -2,7 +2,7 @@
 use Rattle.std.proofs.Common.{◌≡◌, ◌∙◌, ap, set, None, rules}
 use Rattle.std.specs.Prelude.{option_map}
 use Rattle.pos_host.specs.Handles.{sizes_of}
-use Rattle.pos_host.specs.declared.disk.HostFile.{HostFile}
+use Rattle.pos_host.specs.declared.open.HostFile.{HostFile}
 use Rattle.pos_edge.proofs.Kept.{map-set_at}
 use Rattle.pos_host.proofs.disk.end.Goals as goal
 

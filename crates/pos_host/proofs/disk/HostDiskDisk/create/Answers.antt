@@ -1,5 +1,5 @@
 -- A disk that tells nothing meets the contract by what `make` gives.
-use Rattle.pos_edge.proofs.Quiets.{create_exists, create_failed, create_kept, create_memory, create_ok, create_reads}
+use Rattle.pos_edge.proofs.Quiets.{create_quiet, create_exists, create_failed, create_kept, create_memory, create_ok, create_reads}
 use Rattle.pos_host.proofs.disk.HostDiskDisk.create.Goals as goal
 
 pub returns-clause-kept : goal.returns-clause-kept
@@ -19,3 +19,6 @@ returns-clause-failed g c = create_failed c.args.self.now c.make.new.self c.args
 
 pub returns-clause-memory : goal.returns-clause-memory
 returns-clause-memory g c = create_memory c.args.self.now c.make.new.self c.args.name.now c.make.result c.make.ensures
+
+pub returns-clause-quiet : goal.returns-clause-quiet
+returns-clause-quiet g c = create_quiet c.args.self.now c.make.new.self c.args.name.now c.make.result c.make.ensures

@@ -1,5 +1,5 @@
 -- A disk that tells nothing meets the contract by what `find` gives.
-use Rattle.pos_edge.proofs.Quiets.{open_absent, open_failed, open_kept, open_memory, open_ok, open_reads}
+use Rattle.pos_edge.proofs.Quiets.{open_quiet, open_absent, open_failed, open_kept, open_memory, open_ok, open_reads}
 use Rattle.pos_host.proofs.disk.HostDiskDisk.open.Goals as goal
 
 pub returns-clause-kept : goal.returns-clause-kept
@@ -19,3 +19,6 @@ returns-clause-failed g c = open_failed c.args.self.now c.find.new.self c.args.n
 
 pub returns-clause-memory : goal.returns-clause-memory
 returns-clause-memory g c = open_memory c.args.self.now c.find.new.self c.args.name.now c.find.result c.find.ensures
+
+pub returns-clause-quiet : goal.returns-clause-quiet
+returns-clause-quiet g c = open_quiet c.args.self.now c.find.new.self c.args.name.now c.find.result c.find.ensures

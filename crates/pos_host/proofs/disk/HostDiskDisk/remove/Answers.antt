@@ -1,5 +1,5 @@
 -- A disk that tells nothing meets the contract by what `take` gives.
-use Rattle.pos_edge.proofs.Quiets.{quiet_images, quiet_left, remove_ends, remove_failed, remove_kept, remove_ok, remove_reads, quiet_live}
+use Rattle.pos_edge.proofs.Quiets.{remove_quiet, quiet_images, quiet_left, remove_ends, remove_failed, remove_kept, remove_ok, remove_reads, quiet_live}
 use Rattle.pos_host.proofs.disk.HostDiskDisk.remove.Goals as goal
 
 pub returns-clause-kept : goal.returns-clause-kept
@@ -36,3 +36,8 @@ pub returns-clause-left : goal.returns-clause-left
 returns-clause-left g c =
     let s = quiet_live _ c.requires.live in
     quiet_left c.args.self.now c.take.new.self c.args.file.0 s.0 s.1
+
+pub returns-clause-quiet : goal.returns-clause-quiet
+returns-clause-quiet g c =
+    let s = quiet_live _ c.requires.live in
+    remove_quiet c.args.self.now c.take.new.self c.args.file.0 s.0 s.1 c.take.result c.take.ensures

@@ -1,5 +1,5 @@
 -- A disk that tells nothing meets the contract by what `settle` gives.
-use Rattle.pos_edge.proofs.Quiets.{quiet_contents, quiet_images, sync_failed, sync_ids, sync_kept, sync_ok, sync_reads, quiet_live}
+use Rattle.pos_edge.proofs.Quiets.{sync_quiet, quiet_contents, quiet_images, sync_failed, sync_ids, sync_kept, sync_ok, sync_reads, quiet_live}
 use Rattle.pos_host.proofs.disk.HostDiskDisk.sync.Goals as goal
 
 pub returns-clause-kept : goal.returns-clause-kept
@@ -36,3 +36,8 @@ pub returns-clause-ok : goal.returns-clause-ok
 returns-clause-ok g c =
     let s = quiet_live _ c.requires.live in
     sync_ok c.args.self.now c.settle.new.self c.args.file.0 s.0 s.1 c.settle.result
+
+pub returns-clause-quiet : goal.returns-clause-quiet
+returns-clause-quiet g c =
+    let s = quiet_live _ c.requires.live in
+    sync_quiet c.args.self.now c.settle.new.self c.args.file.0 s.0 s.1 c.settle.result c.settle.ensures
