@@ -1,5 +1,5 @@
 -- Bits appended to bytes and a rest of fewer than 64 bits.
-use Rattle.std.proofs.Common.{◌≡◌, ℕ, ◌+◌, ◌-◌, ◌*◌, ◌/◌, ◌%◌, ◌^◌, ◌<◌, ◌≤◌, Bool, true, false, List, [], ◌∷◌, ◌++◌, length, take, replicate, refl, sym, ap, ap₂, ◌∙◌, subst, arith, w64, append_assoc, append-nil, mod-lt, pow_pos, pow-add, add-zero, take_at}
+use Rattle.std.proofs.Common.{◌≡◌, ℕ, ◌+◌, ◌-◌, ◌*◌, ◌/◌, ◌%◌, ◌^◌, ◌<◌, ◌≤◌, Bool, true, false, List, [], ◌∷◌, ◌++◌, length, take, replicate, refl, sym, ap, ap₂, ◌∙◌, subst, arith, w64, append_assoc, append-nil, pow_pos, pow-add, add-zero, take_at}
 use Rattle.std.specs.Int.{to_be_bytes}
 use Rattle.std.proofs.lemmas.List.Elements.{All-take}
 use Rattle.std.proofs.lemmas.List.{replicate-append-replicate}
@@ -51,9 +51,6 @@ pub word-of_one :
     (rest fill value width : ℕ) → fill ≡ 0 →
     bits (value / 2 ^ (width - (64 - fill))) 64 ≡ bits rest fill ++ bits (value / 2 ^ (width - (64 - fill))) (64 - fill)
 word-of_one rest fill value width e = rw (e, bits-none rest) refl
-
-pub low-lt : (value left : ℕ) → value % 2 ^ left < 2 ^ left
-low-lt value left = mod-lt value (pow_pos left)
 
 -- ---- the last bytes
 

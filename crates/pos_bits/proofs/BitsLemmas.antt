@@ -17,10 +17,6 @@ test_of_digit : (b : Bool) → (digit b % 2 == 1) ≡ b
 test_of_digit true = refl
 test_of_digit false = refl
 
-digit-le : (b : Bool) → digit b ≤ 1
-digit-le true = omega arith
-digit-le false = omega arith
-
 -- ---- numbers of strings
 
 -- a string of n bits writes a number below 2 ^ n

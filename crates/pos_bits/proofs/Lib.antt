@@ -7,4 +7,6 @@ pub mod PiecesLemmas
 pub mod WindowLemmas
 pub mod AppendLemmas
 pub mod ReaderLemmas
+pub mod PlacesLemmas
 pub mod Worked
+mod SpellingLemmas

@@ -1,4 +1,5 @@
 pub mod Bits
+pub mod BytesLaws
 pub mod Blocks
 pub mod Written
 pub mod SameBits

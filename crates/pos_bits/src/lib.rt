@@ -4,11 +4,18 @@
 //! byte, and the last byte is filled with 0 bits at its low end.
 #![tactic(auto)]
 
+mod laws;
+mod places;
 mod reader;
 mod string;
 mod window;
 mod writer;
 
+pub use laws::{bytes_are_of_one_string, bytes_are_the_one_spelling};
+pub use places::{
+    append_bits, append_number, append_wide_number, number_at, read_bits, wide_number_at,
+    write_bits,
+};
 pub use reader::BitReader;
 pub use string::BitString;
 pub use writer::BitWriter;
