@@ -1,2 +1,3 @@
 pub mod BlakeLemmas
+pub mod LaneLemmas
 pub mod Worked

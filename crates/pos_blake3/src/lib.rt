@@ -1,8 +1,12 @@
 //! BLAKE3 of one block, the hash behind f2 to f7. Source of the rule: the BLAKE3 paper, 2.2 to 2.4.
 #![tactic(auto)]
 
-ghost use Rattle.std.specs.Prelude.{◌≡◌, ◌+◌, ◌-◌, ◌<◌, ◌≤◌, ◌++◌, length, replicate};
+mod lanes;
+
+ghost use Rattle.std.specs.Prelude.{◌≡◌, ℕ, [], ◌+◌, ◌-◌, ◌<◌, ◌≤◌, ◌++◌, drop, length, replicate, slice_index_or, take};
 ghost use Rattle.pos_blake3.specs.Blake3.{mix_words, mix, round, permuted, rounds, initial_state, word_from, message_words, halves_joined, word_bytes, blake3_block};
+
+use lanes::hash4;
 
 /// The most bytes that one block holds.
 pub const BLOCK_BYTES: usize = 64;
@@ -25,6 +29,19 @@ pub fn hash_block(bytes: &[u8]) -> [u8; 32]
     let message = message_of(bytes);
     let state = compress(start_of(bytes.len() as u32), message);
     bytes_of(halves_of(&state))
+}
+
+/// The BLAKE3 hashes of the first `len` bytes of eight blocks, behind which stand zeros, as `hash_block` gives each.
+/// Takes no memory.
+pub fn hash8(blocks: &[[u8; 64]; 8], len: u32) -> [[u8; 32]; 8]
+    requires short { len ≤ 64 }
+    requires zeros { (j : ℕ) → j < 8 → drop len (slice_index_or blocks.now j []) ≡ replicate (64 - len) 0 }
+    ensures hashes { (j : ℕ) → j < 8 → slice_index_or result j [] ≡ blake3_block (take len (slice_index_or blocks.now j [])) }
+    ensures count { length result ≡ 8 }
+{
+    let [a, b, c, d] = hash4(&blocks[0], &blocks[1], &blocks[2], &blocks[3], len);
+    let [e, f, g, h] = hash4(&blocks[4], &blocks[5], &blocks[6], &blocks[7], len);
+    [a, b, c, d, e, f, g, h]
 }
 
 // The state that the rounds begin with, for a message of so many bytes.
@@ -209,3 +226,6 @@ fn bytes_of(words: [u32; 8]) -> [u8; 32]
     }
     out
 }
+
+#[cfg(test)]
+mod tests;
