@@ -1,4 +1,5 @@
 pub mod MatchLemmas
 pub mod NodeLemmas
 pub mod StreamLemmas
+mod WindowLemmas
 pub mod Worked

@@ -6,8 +6,8 @@ use Rattle.std.proofs.lemmas.Nat.{shr_high, mod_low, shr_below, pow_pos}
 use Rattle.pos_bits.specs.Bits.{bits, number}
 use Rattle.pos_bits.proofs.BitsLemmas.{number-append, number-lt, number-bits, bits-append}
 use Rattle.pos_bits.specs.Blocks.{length-bits}
-use Rattle.rand_chacha.specs.ChaCha.{ChaCha, next_word, of_seed, key_of}
-use Rattle.pos_tuple.specs.Stream.{stream_key, stream_word, stream_byte, stream_bit, stream_bits, f1_of}
+use Rattle.rand_chacha.specs.ChaCha.{ChaCha, next_word, of_seed}
+use Rattle.pos_tuple.specs.Stream.{ReadsFrom, stream_key, stream_word, stream_byte, stream_bit, stream_bits, f1_of}
 
 pub length-stream_bits : (id : List ℕ) (i n : ℕ) → length (stream_bits id i n) ≡ n
 unfolding stream_bits
@@ -181,18 +181,21 @@ f1-computed id k x window stream least most below window_lt is value =
     let whole : stream * 64 % 2 ^ 64 ≡ stream * 64 = mod-eq_of_lt (omega arith) in
     rw whole (sym (f1-parts id k x (omega arith) below ∙ ap (λ n. n * 2 ^ 6 + x / 2 ^ (k - 6)) read))
 
--- the generator after it was set to a word's place: its key, its stream and its place
-pub record ReadsFrom (id : List ℕ) (w : ℕ) (g : ChaCha) : Type 0 where
-  pub key_is : g.key ≡ key_of (stream_key id)
-  pub stream_is : g.stream ≡ 0
-  pub place_is : g.word_pos ≡ w
-
 pub reads_from-set :
     (id : List ℕ) (w : ℕ) (made set : ChaCha) → w < 2 ^ 60 → made ≡ of_seed (stream_key id)
     → set ≡ record { key = made.key; stream = made.stream; word_pos = w % 2 ^ 68 } → ReadsFrom id w set
 reads_from-set id w made set small e f = record {
   key_is = ap (λ g. g.key) f ∙ ap (λ g. g.key) e;
   stream_is = ap (λ g. g.stream) f ∙ ap (λ g. g.stream) e;
+  place_is = ap (λ g. g.word_pos) f ∙ mod-eq_of_lt (omega arith);
+}
+
+pub reads_from-moved :
+    (id : List ℕ) (v w : ℕ) (old set : ChaCha) → w < 2 ^ 60 → ReadsFrom id v old
+    → set ≡ record { key = old.key; stream = old.stream; word_pos = w % 2 ^ 68 } → ReadsFrom id w set
+reads_from-moved id v w old set small h f = record {
+  key_is = ap (λ g. g.key) f ∙ h.key_is;
+  stream_is = ap (λ g. g.stream) f ∙ h.stream_is;
   place_is = ap (λ g. g.word_pos) f ∙ mod-eq_of_lt (omega arith);
 }
 

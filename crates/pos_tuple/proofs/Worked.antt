@@ -1,5 +1,5 @@
 -- The definitions tried against values of an independent program, which was tried against published ones.
-use Rattle.std.proofs.Common.{◌≡◌, refl, true}
+use Rattle.std.proofs.Common.{◌≡◌, [], refl, true}
 use Rattle.std.specs.Prelude.{replicate}
 use Rattle.pos_bits.specs.Bits.{bits, number, bytes_for, bits_of}
 use Rattle.pos_blake3.specs.Blake3.{blake3_block, word_bytes, halves_joined, rounds, round, mix, mix_words, initial_state, initial_words, message_words, permuted, permutation}
@@ -28,3 +28,22 @@ pub node_of_two_values :
     ≡ record { y = 117350; meta = bits 0b110010001000100110101011 24 }
 unfolding next_entry collated hash_bits number bytes_for bits_of bits blake3_block word_bytes halves_joined rounds round mix mix_words initial_state initial_words message_words permuted permutation
 node_of_two_values = refl
+
+-- entries of tables 3, 4 and 7 for k = 16, as the tests of chiapos have them; the right y is not hashed
+pub entry_of_table_3 :
+    next_entry 16 3 (record { y = 0x31e541; meta = bits 0x35bf992d 32 }) (record { y = 0; meta = bits 0x7ce42c82 32 })
+    ≡ record { y = 0xf73b3; meta = bits 0x35bf992d7ce42c82 64 }
+unfolding next_entry collated hash_bits number bytes_for bits_of bits blake3_block word_bytes halves_joined rounds round mix mix_words initial_state initial_words message_words permuted permutation
+entry_of_table_3 = refl
+
+pub entry_of_table_4 :
+    next_entry 16 4 (record { y = 0x30cb4c; meta = bits 0x05b6e6e307d4bedc 64 }) (record { y = 0; meta = bits 0x8a9a021ea648a7dd 64 })
+    ≡ record { y = 0x11ad5; meta = bits 0xd4bd0b144fc26138 64 }
+unfolding next_entry collated hash_bits number bytes_for bits_of bits blake3_block word_bytes halves_joined rounds round mix mix_words initial_state initial_words message_words permuted permutation
+entry_of_table_4 = refl
+
+pub entry_of_table_7 :
+    next_entry 16 7 (record { y = 0x14f410; meta = bits 0x5fec898f 32 }) (record { y = 0; meta = bits 0x82283d15 32 })
+    ≡ record { y = 0x24c3c2; meta = [] }
+unfolding next_entry collated hash_bits number bytes_for bits_of bits blake3_block word_bytes halves_joined rounds round mix mix_words initial_state initial_words message_words permuted permutation
+entry_of_table_7 = refl

@@ -1,7 +1,7 @@
 -- What a tuple of values stands for in the tables: its y and its metadata, where its pairs match.
 -- Source: the Construction document, "f2 to f7", "collation"; chiapos, `FxCalculator`.
 -- Tables count from 1 to 7; an entry of table t stands for 2 ^ (t - 1) values.
-use Rattle.std.specs.Prelude.{ℕ, zero, suc, ◌+◌, ◌*◌, ◌^◌, Bool, if◌then◌else◌, nat_lt, List, [], ◌∷◌, ◌++◌, take, drop, slice_index, Option, Some, None}
+use Rattle.std.specs.Prelude.{◌≡◌, ◌<◌, ℕ, zero, suc, ◌+◌, ◌*◌, ◌^◌, Bool, if◌then◌else◌, nat_lt, List, [], ◌∷◌, ◌++◌, length, take, drop, slice_index, Option, Some, None}
 use Rattle.pos_bits.specs.Bits.{bits, number, bytes, bits_of}
 use Rattle.pos_blake3.specs.Blake3.{blake3_block}
 use Rattle.pos_tuple.specs.declared.entry.Entry.{Entry}
@@ -16,9 +16,18 @@ metadata_units t = slice_index (0 ∷ 1 ∷ 2 ∷ 4 ∷ 4 ∷ 3 ∷ 2 ∷ 0 ∷ 
 unfoldable pub first_entry : List ℕ → ℕ → ℕ → Entry
 first_entry id k x = record { y = f1_of id k x; meta = bits x k }
 
--- the hash of a left and a right entry, as bits: of the left y, then the left and the right metadata
+-- what an entry of table t is made of: k + 6 bits of y, and the table's metadata
+pub record IsEntry (k t : ℕ) (e : Entry) : Type 0 where
+  pub y : e.y < 2 ^ (k + 6)
+  pub meta : length e.meta ≡ k * metadata_units t
+
+-- what is hashed of a left and a right entry: the left y, then the left and the right metadata
+abbrev pub message : ℕ → Entry → Entry → List Bool
+message k l r = bits l.y (k + 6) ++ l.meta ++ r.meta
+
+-- the hash of a left and a right entry, as bits
 unfoldable pub hash_bits : ℕ → Entry → Entry → List Bool
-hash_bits k l r = bits_of (blake3_block (bytes (bits l.y (k + 6) ++ l.meta ++ r.meta)))
+hash_bits k l r = bits_of (blake3_block (bytes (message k l r)))
 
 -- the metadata of an entry of table t, from 2 to 7: both metadata joined in tables 2 and 3, and in
 -- tables 4 to 7 the bits of the hash behind the new y

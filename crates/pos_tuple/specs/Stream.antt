@@ -1,8 +1,9 @@
 -- The key stream of a plot, and f1, which reads it.
 -- Source: the Construction document, "f1"; chiapos, `F1Calculator`. An id is a list of 32 bytes.
-use Rattle.std.specs.Prelude.{ℕ, zero, suc, ◌+◌, ◌-◌, ◌*◌, ◌/◌, ◌%◌, ◌^◌, ◌==◌, Bool, List, [], ◌∷◌, ◌++◌, take}
-use Rattle.rand_chacha.specs.ChaCha.{key_of, word_at}
+use Rattle.std.specs.Prelude.{◌≡◌, ◌<◌, ℕ, zero, suc, ◌+◌, ◌-◌, ◌*◌, ◌/◌, ◌%◌, ◌^◌, ◌==◌, Bool, List, [], ◌∷◌, ◌++◌, take}
+use Rattle.rand_chacha.specs.ChaCha.{ChaCha, key_of, word_at}
 use Rattle.pos_bits.specs.Bits.{bits, number}
+use Rattle.pos_tuple.specs.declared.in_order.Window.{Window}
 
 -- the cipher's key: the byte 1 and the first 31 bytes of the id; the last id byte is not used
 abbrev pub stream_key : List ℕ → List ℕ
@@ -28,3 +29,18 @@ stream_bits id i (suc n) = stream_bit id i ∷ stream_bits id (i + 1) n
 -- f1 of the value x, which is below 2 ^ k: k + 6 bits, k of the stream and then the top 6 of x
 unfoldable pub f1_of : List ℕ → ℕ → ℕ → ℕ
 f1_of id k x = number (stream_bits id (x * k) k ++ bits (x / 2 ^ (k - 6)) 6)
+
+-- the generator of this id's stream that gives word w next
+pub record ReadsFrom (id : List ℕ) (w : ℕ) (g : ChaCha) : Type 0 where
+  pub key_is : g.key ≡ key_of (stream_key id)
+  pub stream_is : g.stream ≡ 0
+  pub place_is : g.word_pos ≡ w
+
+-- the words that a window holds are those of this id's stream from its place on, and its generator gives the word
+-- behind them
+pub record AreWords (id : List ℕ) (s : Window) : Type 0 where
+  pub first_is : s.first ≡ stream_word id s.word
+  pub second_is : s.second ≡ stream_word id (s.word + 1)
+  pub third_is : s.third ≡ stream_word id (s.word + 2)
+  pub reads : ReadsFrom id (s.word + 3) s.rng
+  pub small : s.word < 2 ^ 60

@@ -5,12 +5,14 @@
 
 mod challenge;
 mod entry;
+mod in_order;
 mod matching;
 mod size;
 mod stream;
 
 pub use challenge::{Challenge, challenge_value};
-pub use entry::{Entry, first, fx};
+pub use entry::{Entry, entry_of_hash, first, fx, message_of};
+pub use in_order::{StreamWords, f1_in_order, stream_words};
 pub use matching::matches;
 pub use size::Size;
 pub use stream::{Id, f1};

@@ -30,7 +30,7 @@ pub fn f1(id: &Id, size: Size, x: u64) -> u64
 
 // The cipher's key: the byte 1 and the first 31 bytes of the id.
 #[inline]
-fn key_of(id: &Id) -> [u8; 32]
+pub(crate) fn key_of(id: &Id) -> [u8; 32]
     ensures { result ≡ stream_key id.now.0 }
 {
     let mut key = [1u8; 32];
@@ -57,7 +57,7 @@ fn stream_window(id: &Id, word: u64) -> u128
 
 // The number that `width` bits of a window write, from bit `start` on.
 #[inline]
-fn bits_of_window(window: u128, start: u32, width: u32) -> u64
+pub(crate) fn bits_of_window(window: u128, start: u32, width: u32) -> u64
     requires start { start < 32 }
     requires width { width ≤ 64 }
     requires below { window < 2 ^ 96 }

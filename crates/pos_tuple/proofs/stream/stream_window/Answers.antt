@@ -2,8 +2,8 @@ use Rattle.std.proofs.Common.{◌≡◌, ◌∙◌, ◌*◌, ◌%◌, ◌^◌, �
 use Rattle.std.specs.Int.{w32, swap_bytes}
 use Rattle.rand_chacha.specs.ChaCha.{of_seed}
 use Rattle.pos_bits.specs.Bits.{bits}
-use Rattle.pos_tuple.specs.Stream.{stream_word}
-use Rattle.pos_tuple.proofs.StreamLemmas.{ReadsFrom, reads_from-set, reads_from-word, reads_from-next, stream_bits-window}
+use Rattle.pos_tuple.specs.Stream.{ReadsFrom, stream_word}
+use Rattle.pos_tuple.proofs.StreamLemmas.{reads_from-set, reads_from-word, reads_from-next, stream_bits-window}
 use Rattle.pos_tuple.proofs.stream.stream_window.Goals as goal
 
 pub returns-clause-bits : goal.returns-clause-bits
