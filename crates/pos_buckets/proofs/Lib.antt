@@ -1,0 +1,5 @@
+mod BuiltLemmas
+mod TargetLemmas
+mod PlaceLemmas
+mod PairLemmas
+mod RunLemmas

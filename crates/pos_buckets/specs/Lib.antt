@@ -1,0 +1,4 @@
+pub mod Targets
+pub mod Places
+pub mod Pairs
+pub mod PairsBelow
