@@ -1,0 +1,4 @@
+pub mod PageLemmas
+pub mod ListLemmas
+pub mod TablesLemmas
+pub mod KeptLemmas
