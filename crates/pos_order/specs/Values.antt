@@ -1,4 +1,4 @@
--- The bytes of a proof. Source: the Construction document, "proof format"; chiapos, `Prover`.
+-- The bytes of a proof. Source: the Construction document, "proof format"; chiapos, `DiskProver`.
 -- A proof has 64 values, each below 2 ^ k; as bits they are 64 * k, which are 8 * k whole bytes.
 use Rattle.std.specs.Prelude.{ℕ, ◌≡◌, ◌^◌, ◌<◌, Bool, List, [], ◌∷◌, ◌++◌, length, All}
 use Rattle.pos_bits.specs.Bits.{bits, bytes}

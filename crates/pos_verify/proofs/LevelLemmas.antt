@@ -11,7 +11,7 @@ use Rattle.pos_tuple.specs.Match.{is_match}
 use Rattle.pos_tuple.specs.Node.{first_entry, first_node, next_entry, joined, node}
 use Rattle.pos_tuple.proofs.StreamLemmas.{pow_mono}
 use Rattle.pos_verify.specs.Verdict.{group, FailsFirst}
-use Rattle.pos_verify.specs.Levels.{FitsTable, AllFit, joined_at, AreNodes, AreJoined, StopsAt}
+use Rattle.pos_verify.specs.Levels.{FitsTable, AllFit, joined_at, AreGroupNodes, AreJoined, StopsAt}
 
 -- ---- reads
 
@@ -66,7 +66,7 @@ node-group id k n q xs =
 -- from a level's nodes to the next
 pub are_nodes-next :
     (id : List ℕ) (k n m : ℕ) (xs : List ℕ) (old new : List Entry)
-    → AreNodes id k n xs (2 * m) old → AreJoined k (n + 2) m old new → AreNodes id k (suc n) xs m new
+    → AreGroupNodes id k n xs (2 * m) old → AreJoined k (n + 2) m old new → AreGroupNodes id k (suc n) xs m new
 are_nodes-next id k n m xs old new nodes join q h =
     join.joins q h
     ∙ ap₂ (joined k (n + 2)) (nodes (2 * q) (omega arith)) (nodes (2 * q + 1) (omega arith))
@@ -97,7 +97,7 @@ some_is_some x = refl
 
 pub are_nodes-push :
     (id : List ℕ) (k n i : ℕ) (xs : List ℕ) (entries : List Entry) (v : Entry) → i < length entries
-    → Some v ≡ node id k n (group n i xs) → AreNodes id k n xs i entries → AreNodes id k n xs (i + 1) (slice_set entries i v)
+    → Some v ≡ node id k n (group n i xs) → AreGroupNodes id k n xs i entries → AreGroupNodes id k n xs (i + 1) (slice_set entries i v)
 are_nodes-push id k n i xs entries v inside e h q below =
     ⊎_elim
     (λ (same : q ≡ i). rw same (slice_get-set_same entries i v inside ∙ e))
@@ -126,14 +126,6 @@ pub record JoinedSoFar (k t p : ℕ) (old new : List Entry) : Type 0 where
   pub rest : (q : ℕ) → 2 * p ≤ q → slice_get new q ≡ slice_get old q
   pub count : length new ≡ 64
 
-pub joined-none : (k t : ℕ) (old : List Entry) → length old ≡ 64 → JoinedSoFar k t 0 old old
-joined-none k t old count = record {
-  joins = λ q h. absurd (omega (arith, h));
-  fit = λ q e h is. absurd (omega (arith, h));
-  rest = λ q h. refl;
-  count = count;
-}
-
 -- the entries of the next group are those of the old list
 pub joined-reads : (k t p : ℕ) (old new : List Entry) → JoinedSoFar k t p old new → joined_at k t new p ≡ joined_at k t old p
 joined-reads k t p old new h = ap₂ (joined k t) (h.rest (2 * p) (omega arith)) (h.rest (2 * p + 1) (omega arith))
@@ -157,48 +149,19 @@ is_some-read [] q o h e = absurd (omega (arith, h))
 is_some-read (x ∷ xs) zero o h e = subst IsSome e (some_is_some x)
 is_some-read (x ∷ xs) (suc q) o h e = is_some-read xs q o (omega arith) e
 
-pub joined-stops :
-    (k t n p : ℕ) (old new : List Entry) → p < n → n ≤ 64 → None ≡ joined_at k t new p
-    → JoinedSoFar k t p old new → StopsAt k t old n p
-joined-stops k t n p old new inside most e h = record {
-  inside = inside;
-  here = sym (joined-reads k t p old new h) ∙ sym e;
-  left = λ q less. is_some-read new q (joined_at k t old q) (omega (arith, h.count)) (h.joins q less);
-}
-
-pub joined-all : (k t n p : ℕ) (old new : List Entry) → p ≡ n → JoinedSoFar k t p old new → AreJoined k t n old new
-joined-all k t n p old new e h = record {
-  joins = λ q less. h.joins q (omega arith);
-  fit = λ q v less is. h.fit q v (omega arith) is;
-}
-
 -- ---- the levels
 
 -- the levels below this one are joined: their groups have nodes, and the entries in front are those of the last of them
 pub record LevelsSoFar (id : List ℕ) (k : ℕ) (xs : List ℕ) (level : ℕ) (entries : List Entry) : Type 0 where
-  pub nodes : AreNodes id k (level - 1) xs (2 ^ (7 - level)) entries
+  pub nodes : AreGroupNodes id k (level - 1) xs (2 ^ (7 - level)) entries
   pub fit : AllFit k level (2 ^ (7 - level)) entries
   pub below : (n q : ℕ) → n < level → q < 2 ^ (6 - n) → IsSome (node id k n (group n q xs))
   pub count : length entries ≡ 64
 
 nodes_are_some :
-    (id : List ℕ) (k n m : ℕ) (xs : List ℕ) (entries : List Entry) → m ≤ length entries → AreNodes id k n xs m entries
+    (id : List ℕ) (k n m : ℕ) (xs : List ℕ) (entries : List Entry) → m ≤ length entries → AreGroupNodes id k n xs m entries
     → (q : ℕ) → q < m → IsSome (node id k n (group n q xs))
 nodes_are_some id k n m xs entries most nodes q h = is_some-read entries q _ (omega arith) (nodes q h)
-
-pub levels-none :
-    (id : List ℕ) (k : ℕ) (xs : List ℕ) (entries : List Entry) → AreNodes id k 0 xs 64 entries → AllFit k 1 64 entries
-    → length entries ≡ 64 → LevelsSoFar id k xs 1 entries
-levels-none id k xs entries nodes fit count = record {
-  nodes = nodes;
-  fit = fit;
-  below = λ n q low h. below_one n q low h;
-  count = count;
-}
-  where
-    below_one : (n q : ℕ) → n < 1 → q < 2 ^ (6 - n) → IsSome (node id k n (group n q xs))
-    below_one zero q low h = nodes_are_some id k 0 64 xs entries (omega arith) nodes q h
-    below_one (suc n) q low h = absurd (omega arith)
 
 -- twice the groups of a level is the groups of the one below
 pub twice_groups : (level : ℕ) → level ≤ 6 → 2 * 2 ^ (6 - level) ≡ 2 ^ (7 - level)
@@ -216,11 +179,11 @@ levels-next id k xs (suc n) old new least most count join h =
     let back : suc n + 1 - 1 ≡ suc n = omega arith in
     let less : 7 - (suc n + 1) ≡ 6 - suc n = omega arith in
     let twice = twice_groups (suc n) most in
-    let before : AreNodes id k n xs (2 * 2 ^ (6 - suc n)) old =
+    let before : AreGroupNodes id k n xs (2 * 2 ^ (6 - suc n)) old =
     λ q b. subst (λ m. slice_get old q ≡ node id k m (group m q xs)) down (h.nodes q (omega (arith, twice)))
     in
     let joins : AreJoined k (n + 2) (2 ^ (6 - suc n)) old new = subst (λ t. AreJoined k t (2 ^ (6 - suc n)) old new) up join in
-    let nodes : AreNodes id k (suc n) xs (2 ^ (6 - suc n)) new = are_nodes-next id k n (2 ^ (6 - suc n)) xs old new before joins in
+    let nodes : AreGroupNodes id k (suc n) xs (2 ^ (6 - suc n)) new = are_nodes-next id k n (2 ^ (6 - suc n)) xs old new before joins in
     let small : 2 ^ (6 - suc n) ≤ 2 ^ 6 = pow_mono (6 - suc n) 6 (omega arith) in
     record {
       nodes = rw (back, less) nodes;

@@ -1,14 +1,12 @@
 -- The verdicts exclude one another.
-use Rattle.std.proofs.Common.{◌≡◌, ◌≢◌, ℕ, ◌*◌, ◌<◌, ◌≤◌, ◌-◌, ◌^◌, List, length, refl, sym, ap, ap₂, ◌∙◌, subst, arith, ◌⊎◌, inl, inr, ⊎_elim, true, false, true≢false}
+use Rattle.std.proofs.Common.{◌≡◌, ◌≢◌, ℕ, ◌*◌, ◌<◌, List, length, refl, sym, ap, ap₂, ◌∙◌, subst, ⊎_elim, true, false, true≢false}
 use Rattle.std.specs.Prelude.{Option, Some, None, IsSome}
 use Rattle.std.proofs.lemmas.Bool.{cases_order}
-use Rattle.pos_tuple.specs.Node.{node}
-use Rattle.pos_tuple.specs.Proof.{challenge_value, f7, Proof}
+use Rattle.pos_tuple.specs.Proof.{f7}
 use Rattle.pos_order.specs.Quality.{quality_of}
 use Rattle.pos_order.specs.Values.{WritesValues}
 use Rattle.pos_order.proofs.ValuesLemmas.{writes_values-one, length-written}
-use Rattle.pos_verify.specs.Verdict.{group, FailsFirst, IsRight, OneVerdict}
-use Rattle.pos_verify.specs.declared.Verdict.{Verdict}
+use Rattle.pos_verify.specs.Verdict.{FailsFirst, OneVerdict}
 use Rattle.pos_verify.specs.declared.Verdict.TheVariants.{Accepted, WrongLength, NoMatch, WrongChallenge}
 use Rattle.pos_verify.proofs.VerdictLemmas.{no_proof-failing, no_proof-challenge, no_f7-failing}
 

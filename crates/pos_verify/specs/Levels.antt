@@ -20,8 +20,8 @@ abbrev pub joined_at : ℕ → ℕ → List Entry → ℕ → Option Entry
 joined_at k t entries q = joined k t (slice_get entries (2 * q)) (slice_get entries (2 * q + 1))
 
 -- the first n entries are the nodes of the groups of 2 ^ level values
-abbrev pub AreNodes : List ℕ → ℕ → ℕ → List ℕ → ℕ → List Entry → Type 0
-AreNodes id k level xs n entries = (q : ℕ) → q < n → slice_get entries q ≡ node id k level (group level q xs)
+abbrev pub AreGroupNodes : List ℕ → ℕ → ℕ → List ℕ → ℕ → List Entry → Type 0
+AreGroupNodes id k level xs n entries = (q : ℕ) → q < n → slice_get entries q ≡ node id k level (group level q xs)
 
 -- group q is the first of the groups that do not join
 pub record StopsAt (k t : ℕ) (entries : List Entry) (n q : ℕ) : Type 0 where

@@ -5,7 +5,7 @@ ghost use Rattle.std.specs.Prelude.{◌≡◌, ◌↔◌, ◌≤◌, ◌<◌, �
 ghost use Rattle.pos_tuple.specs.Node.{node};
 ghost use Rattle.pos_tuple.specs.declared.entry.Entry.{Entry};
 ghost use Rattle.pos_verify.specs.Verdict.{IsRight, OneVerdict, IsProofBytes, IsAcceptance, FailsFirst};
-ghost use Rattle.pos_verify.specs.Levels.{FitsTable, AllFit, AreNodes, AreJoined, StopsAt, joined_at};
+ghost use Rattle.pos_verify.specs.Levels.{FitsTable, AllFit, AreGroupNodes, AreJoined, StopsAt, joined_at};
 
 use pos_order::{proof_values, quality};
 use pos_tuple::{Challenge, Entry, Id, Size, challenge_value, first, fx, matches};
@@ -88,7 +88,7 @@ fn root_of(id: &Id, size: Size, values: &[u64; 64]) -> Result<Entry, Failing>
 // The entries of table 1 of 64 values.
 fn leaves(id: &Id, size: Size, values: &[u64; 64]) -> [Entry; 64]
     requires { All (λ x. x < 2 ^ size) values.now }
-    ensures nodes { AreNodes id.now.0 size 0 values.now 64 result }
+    ensures nodes { AreGroupNodes id.now.0 size 0 values.now 64 result }
     ensures fit { AllFit size 1 64 result }
     ensures len { length result ≡ 64 }
 {
