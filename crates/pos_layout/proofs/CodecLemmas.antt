@@ -1,6 +1,6 @@
 -- Header and entries, between bytes and fields.
 use Rattle.std.proofs.Common.{◌≡◌, ℕ, zero, suc, ◌+◌, ◌*◌, ◌%◌, ◌^◌, ◌<◌, ◌≤◌, leb, eqb, ◌&&◌, Bool, true, false, List, [], ◌∷◌, ◌++◌, length, take, drop, get_or, replicate, Option, Some, None, refl, sym, ap, ◌∙◌, arith, append_assoc, append-nil}
-use Rattle.std.proofs.lemmas.List.{get_or-take, get_or-drop, take_all, length-take, length-drop, drop_more, take_more, ext_get_or}
+use Rattle.std.proofs.lemmas.List.{get_or-take, get_or-drop, take_all, length-take, length-drop, drop_more, take_more}
 use Rattle.std.proofs.lemmas.Nat.{one_shl}
 use Rattle.std.specs.Int.{w32, w64, to_be_bytes}
 use Rattle.pos_layout.specs.declared.header.Column.{Column}
@@ -25,19 +25,6 @@ part-get xs at n i d h = get_or-take n (drop at xs) i d h ∙ get_or-drop at xs 
 pub length-part : {X : Type 0} (xs : List X) (at n : ℕ) → at + n ≤ length xs → length (part xs at n) ≡ n
 unfolding part
 length-part xs at n h = simp (length-take, length-drop) (omega arith)
-
--- the list whose elements are those of a part, one by one
-pub part_is : (xs ys : List ℕ) (at : ℕ) → at + length ys ≤ length xs → ((i : ℕ) → i < length ys → get_or ys i 0 ≡ get_or xs (at + i) 0) → ys ≡ part xs at (length ys)
-part_is xs ys at h same =
-    ext_get_or 0 ys (part xs at (length ys)) (sym (length-part xs at (length ys) h))
-    (λ i l. same i l ∙ sym (part-get xs at (length ys) i 0 l))
-
-four_cases : (P : ℕ → Type 0) → P 0 → P 1 → P 2 → P 3 → (i : ℕ) → i < 4 → P i
-four_cases P a b c d zero h = a
-four_cases P a b c d (suc zero) h = b
-four_cases P a b c d (suc (suc zero)) h = c
-four_cases P a b c d (suc (suc (suc zero))) h = d
-four_cases P a b c d (suc (suc (suc (suc i)))) h = absurd (omega arith)
 
 -- so many elements of a list, one by one
 pub listed : List ℕ → ℕ → ℕ → List ℕ

@@ -11,7 +11,8 @@ use Rattle.pos_layout.specs.declared.header.Header.{Header}
 use Rattle.pos_layout.specs.declared.header.TheConstants.{HEADER_BYTES}
 use Rattle.pos_layout.specs.Bytes.{four, eight}
 use Rattle.pos_layout.specs.Forms.{Form, IsForm}
-use Rattle.pos_layout.specs.Lists.{PlotLists, IsPlot}
+use Rattle.pos_layout.specs.Lists.{IsPlot}
+use Rattle.pos_lists.specs.PlotLists.{PlotLists}
 use Rattle.pos_layout.specs.Fields.{column_bytes, columns_bytes, header_bytes, entry_fields}
 use Rattle.pos_layout.specs.Files.{park_of, parks_in, park_bytes, entry_for, directory, table_bytes, tables_bytes, body_of, header_of, file_with, file_of}
 use Rattle.pos_layout.proofs.NumberLemmas.{park_of-bytes}

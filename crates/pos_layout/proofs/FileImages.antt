@@ -2,7 +2,7 @@
 use Rattle.std.proofs.Common.{◌≡◌, ℕ, zero, suc, ◌<◌, ◌⊎◌, inl, inr, List, length, get_or, Some, refl, sym, ◌∙◌, arith}
 use Rattle.std.proofs.lemmas.List.{ext_get_or}
 use Rattle.pos_layout.specs.Forms.{Form}
-use Rattle.pos_layout.specs.Lists.{PlotLists}
+use Rattle.pos_lists.specs.PlotLists.{PlotLists}
 use Rattle.pos_layout.specs.Fields.{header_bytes}
 use Rattle.pos_layout.specs.Rules.{Opens}
 use Rattle.pos_layout.specs.Files.{file_with, file_of}

@@ -7,7 +7,8 @@ use Rattle.pos_bits.proofs.BytesLemmas.{AreBytes-part}
 use Rattle.pos_layout.specs.declared.header.TheConstants.{HEADER_BYTES}
 use Rattle.pos_layout.specs.Bytes.{part}
 use Rattle.pos_layout.specs.Forms.{Form, IsForm}
-use Rattle.pos_layout.specs.Lists.{PlotLists, IsTable, IsPlot, numbers}
+use Rattle.pos_layout.specs.Lists.{IsTable, IsPlot}
+use Rattle.pos_lists.specs.PlotLists.{PlotLists, numbers}
 use Rattle.pos_layout.specs.Fields.{header_bytes, header_in, end_of}
 use Rattle.pos_layout.specs.Rules.{StoresTable, Stores}
 use Rattle.pos_layout.specs.Files.{tables_bytes, columns_for, body_of, header_of, file_with, file_of}

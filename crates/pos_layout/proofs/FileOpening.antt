@@ -17,7 +17,7 @@ use Rattle.pos_layout.specs.declared.header.TheConstants.{HEADER_BYTES, LEAST_SI
 use Rattle.pos_layout.specs.Forms.{Form}
 use Rattle.pos_layout.specs.Fields.{gate_in, name_in, zeros_in, header_in, count_of, directory_of, end_of}
 use Rattle.pos_layout.specs.Rules.{IsPlaced, Opens}
-use Rattle.pos_layout.specs.Causes.{IsRight}
+use Rattle.pos_layout.specs.Causes.{HasRightHeader}
 use Rattle.pos_layout.specs.Damages.{unless, first_found, header_fault, is_placed, place_fault, directory_fault, opening}
 use Rattle.pos_layout.proofs.CodecLemmas.{length-part}
 use Rattle.pos_layout.proofs.FilePlots.{no_column, column_of-suc, each}
@@ -98,7 +98,7 @@ header_tests l b =
     ∷ unless (list_all (λ (c : Column). leb c.count (2 ^ ((header_in b).size + 1))) (header_in b).columns) Counts
     ∷ []
 
-pub header_is_right : (l : Form) (b : List ℕ) → HEADER_BYTES ≤ length b → header_fault l b ≡ None → IsRight l b
+pub header_is_right : (l : Form) (b : List ℕ) → HEADER_BYTES ≤ length b → header_fault l b ≡ None → HasRightHeader l b
 unfolding header_fault
 header_is_right l b long h =
     let a = all_none (header_tests l b) h in
@@ -116,7 +116,7 @@ header_is_right l b long h =
           subst (λ (c : Column). c.count ≤ most) (sym (column_of-suc (header_in b) s)) (leb-le (get_or (header_in b).columns s no_column).count most t));
     }
 
-pub right_header : (l : Form) (b : List ℕ) → IsRight l b → header_fault l b ≡ None
+pub right_header : (l : Form) (b : List ℕ) → HasRightHeader l b → header_fault l b ≡ None
 unfolding header_fault
 right_header l b h =
     let most = 2 ^ ((header_in b).size + 1) in

@@ -4,7 +4,7 @@ use Rattle.std.specs.List.{concat}
 use Rattle.std.proofs.lemmas.Bool.{cases_lt}
 use Rattle.std.proofs.lemmas.List.{take_all, drop_all, drop-drop, length-take, length-drop, take-append-drop}
 use Rattle.std.proofs.lemmas.List.Elements.{All-get_or}
-use Rattle.std.proofs.Math.Nat.{div-eq_of_lt-le, mul-le-mul_left}
+use Rattle.std.proofs.Math.Nat.{div-eq_of_lt-le}
 use Rattle.pos_rice.specs.Park.{AreNumbers}
 use Rattle.pos_layout.specs.Bytes.{part}
 use Rattle.pos_layout.specs.Forms.{Form, IsForm, entry_bytes, parks_of}
@@ -76,15 +76,6 @@ length-parks_in l ns some =
     let a = c.enough in
     let b = c.needed in
     sym (div-eq_of_lt-le {k = length (cut l.full (length ns) ns)} l.full {m = length ns + (l.full - 1)} (omega arith) (omega arith))
-
--- each park begins inside the table
-pub parks_in-inside : (l : Form) (ns : List ℕ) (j : ℕ) → 1 ≤ l.full → j < length (parks_in l ns) → l.full * j < length ns
-unfolding parks_in
-parks_in-inside l ns j some h =
-    let c = cut-count l.full (length ns) ns some (omega arith) in
-    let b = c.needed in
-    let m : l.full * suc j ≤ l.full * length (cut l.full (length ns) ns) = mul-le-mul_left l.full h in
-    omega arith
 
 -- so each has numbers that a park can hold
 pub parks_in-numbers : (l : Form) (k : ℕ) (ns : List ℕ) (j : ℕ) → IsForm l → IsTable k ns → j < length (parks_in l ns) → AreNumbers k (get_or (parks_in l ns) j [])

@@ -1,7 +1,7 @@
 -- Pieces of a list of bytes by their places.
 use Rattle.std.proofs.Common.{◌≡◌, ℕ, ◌+◌, ◌<◌, ◌≤◌, List, [], ◌++◌, length, take, drop, get_or, refl, sym, ap, ◌∙◌, subst, arith, length-append}
 use Rattle.std.proofs.Math.Seq.{take-add, take-append_seam, drop-append_seam}
-use Rattle.std.proofs.lemmas.List.{take_all, length-take, length-drop, drop-take, drop-drop, take-take}
+use Rattle.std.proofs.lemmas.List.{take_all, drop-take, drop-drop, take-take}
 use Rattle.pos_layout.specs.Bytes.{part}
 use Rattle.pos_layout.proofs.CodecLemmas.{part-get, length-part}
 
@@ -58,10 +58,6 @@ has-is b at n x e h = ap (λ j. part b at j) (sym e) ∙ h.is
 
 pub has_of : (b : List ℕ) (at n : ℕ) (x : List ℕ) → length x ≡ n → part b at n ≡ x → Has b at x
 has_of b at n x e h = record { is = ap (λ j. part b at j) e ∙ h }
-
-pub has-within : (b : List ℕ) (at : ℕ) (x : List ℕ) → 1 ≤ length x → Has b at x → at + length x ≤ length b
-unfolding part
-has-within b at x some h = omega (arith, ap length h.is, length-take (length x) (drop at b), length-drop at b)
 
 pub has-whole : (b x : List ℕ) → length b ≡ length x → Has b 0 x → b ≡ x
 unfolding part

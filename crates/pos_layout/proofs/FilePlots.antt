@@ -6,7 +6,8 @@ use Rattle.pos_layout.specs.declared.header.Column.{Column}
 use Rattle.pos_layout.specs.declared.header.Header.{Header}
 use Rattle.pos_layout.specs.declared.header.TheConstants.{HEADER_BYTES}
 use Rattle.pos_layout.specs.Forms.{Form, IsForm}
-use Rattle.pos_layout.specs.Lists.{PlotLists, IsTable, IsPlot, numbers}
+use Rattle.pos_layout.specs.Lists.{IsTable, IsPlot}
+use Rattle.pos_lists.specs.PlotLists.{PlotLists, numbers}
 use Rattle.pos_layout.specs.Fields.{header_bytes, header_in, column_of, count_of, end_of}
 use Rattle.pos_layout.specs.Rules.{IsPlaced, IsLaidOut, StoresTable, Stores}
 use Rattle.pos_layout.specs.Files.{parks_in, park_bytes, directory, cut, table_bytes, tables_bytes, columns_for, body_of, header_of, file_with, file_of}

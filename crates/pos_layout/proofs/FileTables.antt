@@ -14,7 +14,8 @@ use Rattle.pos_rice.proofs.ParkLemmas.{Park-short, Park-one_list_of_numbers}
 use Rattle.pos_layout.specs.declared.header.Header.{Header}
 use Rattle.pos_layout.specs.declared.entry.ParkEntry.{ParkEntry}
 use Rattle.pos_layout.specs.Forms.{Form, IsForm, entry_bytes, longest_park, parks_of}
-use Rattle.pos_layout.specs.Lists.{IsTable, f7_in}
+use Rattle.pos_layout.specs.Lists.{IsTable}
+use Rattle.pos_lists.specs.PlotLists.{f7_in}
 use Rattle.pos_layout.specs.Fields.{header_in, count_of, directory_of, end_of, entry_in, entry_fields, park_in}
 use Rattle.pos_layout.specs.Rules.{StoresPark, StoresTable, park_start, head_of}
 use Rattle.pos_layout.specs.Files.{park_of, parks_in, park_bytes, entry_for, directory, table_bytes}

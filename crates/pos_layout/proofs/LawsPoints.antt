@@ -1,7 +1,7 @@
 -- The pointers' rule by the count of pairs.
 use Rattle.std.proofs.Common.{◌≡◌, ℕ, ◌-◌, ◌*◌, ◌/◌, ◌<◌, ◌≤◌, ◌⊎◌, inl, inr, ◌↔◌, arith, ap}
 use Rattle.std.proofs.lemmas.Bool.{cases_lt}
-use Rattle.pos_points.specs.Points.{greater, pair_at}
+use Rattle.pos_lists.specs.Pairs.{greater, pair_at}
 use Rattle.pos_points.proofs.PointLemmas.{pairs_below, above_lt, IsAt, pair_at-is}
 
 pub inside_by_pairs : (n m : ℕ) → (greater n < m) ↔ (n < pairs_below m)

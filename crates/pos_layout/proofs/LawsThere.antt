@@ -4,7 +4,9 @@ use Rattle.std.proofs.lemmas.List.{get_or-replicate}
 use Rattle.std.proofs.lemmas.List.Elements.{All-nil, All-cons}
 use Rattle.pos_bits.specs.Bits.{AreBytes}
 use Rattle.pos_layout.specs.declared.header.TheConstants.{LEAST_SIZE, GREATEST_SIZE}
-use Rattle.pos_layout.specs.Lists.{IsTable, IsPlot, IsInRange, count, numbers}
+use Rattle.pos_layout.specs.Lists.{IsTable, IsPlot}
+use Rattle.pos_lists.specs.Trees.{IsInRange}
+use Rattle.pos_lists.specs.PlotLists.{count, numbers}
 use Rattle.pos_layout.specs.FileLaws.{bare}
 
 no_table : (k : ℕ) → IsTable k []
@@ -21,5 +23,9 @@ none_in id k t h = let nothing : List ℕ = [] in ap length (get_or-replicate 7 
 pub bare_is_a_plot : (id : List ℕ) (k : ℕ) → length id ≡ 32 → AreBytes id → LEAST_SIZE ≤ k → k ≤ GREATEST_SIZE → IsPlot (bare id k) × IsInRange (bare id k)
 bare_is_a_plot id k n bytes_ low high = (
   record { id_length = n; id_bytes = bytes_; least = low; greatest = high; seven = refl; tables = no_tables k 7 },
-  λ t i h less. absurd (let e = none_in id k t h in omega arith),
+  record {
+    points = λ t i h less. absurd (let e = none_in id k t (omega arith) in omega arith);
+    answers = λ i less. absurd (let e = none_in id k 6 (omega arith) in omega arith);
+    places = λ i less. absurd (let e = none_in id k 6 (omega arith) in omega arith);
+  },
 )

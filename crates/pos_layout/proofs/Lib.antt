@@ -1,3 +1,4 @@
+pub mod AnyReadings
 pub mod CodecLemmas
 pub mod FileBytes
 pub mod FileCauses
@@ -13,5 +14,9 @@ pub mod FileTables
 pub mod LawsPoints
 pub mod LawsThere
 pub mod NumberLemmas
+pub mod RangeLemmas
+pub mod ReadingLemmas
 pub mod ShutLemmas
+pub mod StoredLemmas
+pub mod WorksLemmas
 pub mod WriterLemmas

@@ -11,7 +11,6 @@ use Rattle.std.specs.List.Sorted.{IsStrictlyIncreasing}
 use Rattle.pos_bits.specs.Bits.{bits, bytes, AreBytes}
 use Rattle.pos_bits.specs.Blocks.{length-bits}
 use Rattle.pos_bits.proofs.BytesLemmas.{bytes-are_bytes, length-bytes}
-use Rattle.pos_rice.specs.declared.TheConstants.{MOST_NUMBERS}
 use Rattle.pos_rice.specs.Park.{AreNumbers, IsLow, Park, mean_step, park_bits, steps_bits}
 use Rattle.pos_rice.proofs.ParkLemmas.{far, Park-one_list_of_bytes, Park-short}
 use Rattle.sha2.specs.Sha256.{sha256}
@@ -65,10 +64,6 @@ All-drop P (suc n) (x ∷ xs) h = All-drop P n xs (All-tail P x xs h)
 pub All-end : {X : Type 0} (P : X → Type 0) (xs ys : List X) → All P (xs ++ ys) → All P ys
 All-end P [] ys h = h
 All-end P (x ∷ xs) ys h = All-end P xs ys (All-tail P x (xs ++ ys) h)
-
--- numbers of a table, some but not too many, are those of a park
-pub numbers_from : (k : ℕ) (ns : List ℕ) → 1 ≤ length ns → length ns ≤ MOST_NUMBERS → IsStrictlyIncreasing ns → All (λ n. n < 2 ^ (2 * k + 2)) ns → AreNumbers k ns
-numbers_from k ns some few rising below = record { some = some; few = few; rising = rising; below = below }
 
 -- ---- the park as a function
 

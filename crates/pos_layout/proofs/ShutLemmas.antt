@@ -126,15 +126,6 @@ HoldsShut-append file at piece b v w e h kept by done =
     let some = h.shut.0 in
     subst (λ c. HoldsShut file c w) (written_end at piece b e) (HoldsShut-write file at piece b v w (omega arith) (omega arith) h kept by done)
 
--- the first write of a fresh file
-pub tiny_images : (file : ℕ) (piece : List ℕ) (v w : View) → length piece ≡ 1 → IsFresh file v → ImagesBy (Tears 0 (length piece)) file v w → EachImageOf IsTiny file v w
-tiny_images file piece v w e h by =
-    images_step IsTiny IsTiny (Tears 0 (length piece)) file v w h.images by (λ before image s t. Tears-tiny before image s (subst (λ n. Tears 0 n before image) e t))
-
-pub tiny_synced : (file : ℕ) (v w : View) → ((name : List ℕ) (image : Option (List ℕ)) → NameOf file v name → v.image name v.clock image → IsTiny image)
-    → ImagesBy Stays file v w → EachImageOf IsTiny file v w
-tiny_synced file v w now by = images_step IsTiny IsTiny Stays file v w now by (Stays-keeps IsTiny)
-
 -- what is on the disk with a closed gate
 pub HoldsShut-synced : (file : ℕ) (b : List ℕ) (v : View) → IsShut (Some b) → Holds file b v → HoldsShut file b v
 HoldsShut-synced file b v shut h = record {
@@ -156,17 +147,6 @@ begun_shut file piece u v w e h first wrote second size same synced =
     let bytes = HasBytes-write file 0 piece [] u v (omega arith) h.bytes first wrote in
     HoldsShut-synced file (0 ∷ []) w (omega arith, refl)
     (Holds-sync file (0 ∷ []) v w (subst (λ b. HasBytes file b v) (written_end 0 piece [] refl ∙ e) bytes) second size same synced)
-
-pub begun_images : (file at : ℕ) (piece rest : List ℕ) (u v w x : View) → piece ≡ 0 ∷ [] → 1 ≤ at → IsFresh file u
-    → ChangesFile file u v → ImagesBy (Tears 0 (length piece)) file u v
-    → ChangesFile file v w → ImagesBy Stays file v w → HoldsShut file (0 ∷ []) w
-    → ChangesFile file w x → ImagesBy (Tears at (length rest)) file w x → EachImageOf IsTinyOrShut file u x
-begun_images file at piece rest u v w x e some h k1 by1 k2 by2 held k3 by3 =
-    let one = tiny_images file piece u v (ap length e) h by1 in
-    let two = tiny_synced file v w (images_end IsTiny file u v k1 one) by2 in
-    let three = shut_images file at rest (0 ∷ []) w x some held by3 in
-    let wide = images_weaker IsTiny IsTinyOrShut file u w (λ i t. inl t) (images_then IsTiny file u v w k1 k2 one two) in
-    images_then IsTinyOrShut file u w x (file_then file u v w h.bytes.live k1 k2) k3 wide (images_weaker IsShut IsTinyOrShut file w x (λ i t. inr t) three)
 
 -- the header over the beginning of a file, and then the gate
 pub opened-is : (header b : List ℕ) → length header ≡ 175 → 176 ≤ length b → written 0 (1 ∷ []) (written 1 header b) ≡ opened header b
@@ -203,38 +183,6 @@ written-gate header b (Some c) e long torn =
           let longer = torn.no_longer in
           get_or_past c at 0 (omega arith) ∙ sym (get_or_past (written 0 (1 ∷ []) (written 1 header b)) at 0 (omega arith))
     ]
-
-pub finished_images : (file : ℕ) (header b : List ℕ) (v w : View) → length header ≡ 175 → 176 ≤ length b → Holds file (written 1 header b) v
-    → ImagesBy (Tears 0 1) file v w → EachImageOf (IsButGate (opened header b)) file v w
-finished_images file header b v w e long held by =
-    images_step (λ i. i ≡ Some (written 1 header b)) (IsButGate (opened header b)) (Tears 0 1) file v w (λ name image is img. held.images name is image img) by
-    (λ before image is torn. written-gate header b image e long (subst (λ i. Tears 0 1 i image) is torn))
-
-pub finished_synced : (file : ℕ) (o : List ℕ) (v w : View) → ((name : List ℕ) (image : Option (List ℕ)) → NameOf file v name → v.image name v.clock image → IsButGate o image)
-    → ImagesBy Stays file v w → EachImageOf (IsButGate o) file v w
-finished_synced file o v w now by = images_step (IsButGate o) (IsButGate o) Stays file v w now by (Stays-keeps (IsButGate o))
-
--- Images up to each end of the last step: of u the start, then a write of the header, a sync, a write of the gate, a sync.
-pub shut_synced : (file : ℕ) (header b : List ℕ) (u v w : View) → HoldsShut file b u → 1 ≤ length b → ChangesFile file u v → ImagesBy (Tears 1 (length header)) file u v
-    → ChangesFile file v w → ImagesBy Stays file v w → EachImageOf IsShut file u w
-shut_synced file header b u v w held some k1 by1 k2 by2 =
-    let one = shut_images file 1 header b u v (omega arith) held by1 in
-    images_then IsShut file u v w k1 k2 one (images_step IsShut IsShut Stays file v w (images_end IsShut file u v k1 one) by2 (Stays-keeps IsShut))
-
-pub opening_images : (file : ℕ) (header b : List ℕ) (u w x : View) → length header ≡ 175 → 176 ≤ length b → u.is_live file ≡ true → ChangesFile file u w → EachImageOf IsShut file u w
-    → Holds file (written 1 header b) w → ChangesFile file w x → ImagesBy (Tears 0 1) file w x → EachImageOf (IsShutOr (opened header b)) file u x
-opening_images file header b u w x e long live k12 shut held k3 by3 =
-    images_then (IsShutOr (opened header b)) file u w x k12 k3 (images_weaker IsShut (IsShutOr (opened header b)) file u w (λ i s. inl s) shut)
-    (images_weaker (IsButGate (opened header b)) (IsShutOr (opened header b)) file w x (λ i s. inr s) (finished_images file header b w x e long held by3))
-
-pub opened_images : (file : ℕ) (header b : List ℕ) (u w x y : View) → length header ≡ 175 → 176 ≤ length b → u.is_live file ≡ true → ChangesFile file u w → EachImageOf IsShut file u w
-    → Holds file (written 1 header b) w → ChangesFile file w x → ImagesBy (Tears 0 1) file w x → ChangesFile file x y → ImagesBy Stays file x y
-    → EachImageOf (IsShutOr (opened header b)) file u y
-opened_images file header b u w x y e long live k12 shut held k3 by3 k4 by4 =
-    let gate = finished_images file header b w x e long held by3 in
-    images_then (IsShutOr (opened header b)) file u x y (file_then file u w x live k12 k3) k4 (opening_images file header b u w x e long live k12 shut held k3 by3)
-    (images_weaker (IsButGate (opened header b)) (IsShutOr (opened header b)) file x y (λ i s. inr s)
-    (finished_synced file (opened header b) x y (images_end (IsButGate (opened header b)) file w x k3 gate) by4))
 
 -- the header on the disk
 pub header_synced : (file : ℕ) (header b : List ℕ) (u v w : View) → 176 ≤ length b → HoldsShut file b u → ChangesFile file u v → IsWritten file 1 header u v

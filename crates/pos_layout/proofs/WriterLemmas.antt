@@ -65,9 +65,6 @@ keeps_short l w p parks v form h =
 pub numbers_at : (k k' : ℕ) (ns ns' : List ℕ) → k ≡ k' → ns ≡ ns' → AreNumbers k' ns' → AreNumbers k ns
 numbers_at k k' ns ns' ek en h = subst (λ j. AreNumbers j ns) (sym ek) (subst (AreNumbers k') (sym en) h)
 
-pub park_at : (k k' : ℕ) (ns ns' s s' : List ℕ) → k ≡ k' → ns ≡ ns' → s ≡ s' → Park k' ns' s' → Park k ns s
-park_at k k' ns ns' s s' ek en es h = subst (λ j. Park j ns s) (sym ek) (subst (λ n. Park k' n s) (sym en) (subst (Park k' ns') (sym es) h))
-
 -- a park more still fits
 pub grown_fits : (l : Form) (w : WriterState) (p : Draft) (parks : List (List ℕ)) (v : View) (s : List ℕ) (n : ℕ) → Keeps l w p parks v → Park w.size w.park s → length w.park ≤ 2048
     → n ≡ length s → IsForm l → w.file_length + n < 2 ^ 62

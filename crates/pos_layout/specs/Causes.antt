@@ -24,7 +24,7 @@ abbrev pub AreCounts : Header → Type 0
 AreCounts h = (t : ℕ) → 1 ≤ t → t ≤ 7 → count_of h t ≤ 2 ^ (h.size + 1)
 
 -- the header's name, size, zeros and counts can be
-pub record IsRight (l : Form) (b : List ℕ) : Type 0 where
+pub record HasRightHeader (l : Form) (b : List ℕ) : Type 0 where
   pub name : name_in b ≡ l.name
   pub size : IsSize (header_in b).size
   pub zeros : zeros_in b ≡ replicate 7 0
@@ -47,7 +47,7 @@ PlaceCause l h t =
 abbrev pub OpeningCause : Form → List ℕ → Damage → Type 0
 OpeningCause l b (NotOpen n gate) = (n ≡ length b) × (gate ≡ gate_in b) × (¬ IsGated b)
 OpeningCause l b (WrongHeader field) = IsGated b × FieldCause l b field
-OpeningCause l b (Length said found) = IsGated b × IsRight l b × (said ≡ (header_in b).file_length) × (found ≡ length b) × (said ≢ found)
+OpeningCause l b (Length said found) = IsGated b × HasRightHeader l b × (said ≡ (header_in b).file_length) × (found ≡ length b) × (said ≢ found)
 OpeningCause l b (Directory t park) =
-    IsGated b × IsRight l b × ((header_in b).file_length ≡ length b) × (park ≡ 0) × PlaceCause l (header_in b) t
+    IsGated b × HasRightHeader l b × ((header_in b).file_length ≡ length b) × (park ≡ 0) × PlaceCause l (header_in b) t
 OpeningCause l b _ = ⊥

@@ -10,7 +10,8 @@ use Rattle.pos_edge.specs.declared.scratch.WorkFault.TheVariants.{DiskFailed, Me
 use Rattle.pos_layout.specs.declared.header.Column.{Column}
 use Rattle.pos_layout.specs.declared.header.TheConstants.{HEADER_BYTES, LEAST_SIZE, GREATEST_SIZE}
 use Rattle.pos_layout.specs.Forms.{Form}
-use Rattle.pos_layout.specs.Lists.{PlotLists, IsTable}
+use Rattle.pos_layout.specs.Lists.{IsTable}
+use Rattle.pos_lists.specs.PlotLists.{PlotLists}
 use Rattle.pos_layout.specs.Files.{park_bytes, directory, tables_bytes, columns_for, file_of}
 use Rattle.pos_layout.specs.Rules.{Stores}
 use Rattle.pos_layout.specs.Images.{HoldsShut, Holds}

@@ -2,10 +2,12 @@
 -- nothing exactly where a file opens; nothing that a crash may leave opens but the finished file.
 use Rattle.std.specs.Prelude.{◌≡◌, ◌↔◌, ℕ, ◌-◌, ◌*◌, ◌/◌, ◌<◌, ◌≤◌, ◌⊎◌, List, [], length, replicate, Some, None}
 use Rattle.pos_bits.specs.Bits.{AreBytes}
-use Rattle.pos_points.specs.Points.{greater}
+use Rattle.pos_lists.specs.Pairs.{greater}
 use Rattle.pos_layout.specs.declared.header.TheConstants.{LEAST_SIZE, GREATEST_SIZE}
 use Rattle.pos_layout.specs.Forms.{Form, IsForm, own}
-use Rattle.pos_layout.specs.Lists.{PlotLists, IsPlot, IsInRange}
+use Rattle.pos_layout.specs.Lists.{IsPlot}
+use Rattle.pos_lists.specs.PlotLists.{PlotLists}
+use Rattle.pos_lists.specs.Trees.{IsInRange}
 use Rattle.pos_layout.specs.Rules.{Opens, Stores, Well}
 use Rattle.pos_layout.specs.Files.{file_of}
 use Rattle.pos_layout.specs.declared.damage.Damage.{Damage}
@@ -46,8 +48,8 @@ abbrev pub AStoredPlotIsAPlot : Type 0
 AStoredPlotIsAPlot = (l : Form) (b : List ℕ) (p : PlotLists) → IsForm l → AreBytes b → Stores l b p → IsPlot p
 
 -- a file stores at most one plot
-abbrev pub OnePlot : Type 0
-OnePlot = (l : Form) (b : List ℕ) (p q : PlotLists) → IsForm l → Stores l b p → Stores l b q → p ≡ q
+abbrev pub OneStoredPlot : Type 0
+OneStoredPlot = (l : Form) (b : List ℕ) (p q : PlotLists) → IsForm l → Stores l b p → Stores l b q → p ≡ q
 
 -- what stores a plot is the file of the plot
 abbrev pub OneFile : Type 0

@@ -9,7 +9,7 @@ use Rattle.pos_layout.specs.declared.header.Header.{Header}
 use Rattle.pos_layout.specs.declared.entry.ParkEntry.{ParkEntry}
 use Rattle.pos_layout.specs.declared.header.TheConstants.{HEADER_BYTES}
 use Rattle.pos_layout.specs.Forms.{Form}
-use Rattle.pos_layout.specs.Lists.{PlotLists}
+use Rattle.pos_lists.specs.PlotLists.{PlotLists}
 use Rattle.pos_layout.specs.Fields.{header_bytes, entry_fields}
 use Rattle.pos_layout.specs.Rules.{head_of}
 

@@ -9,4 +9,6 @@ pub mod Forms
 pub mod Images
 pub mod Lists
 pub mod Reading
+pub mod ReadingLaws
 pub mod Rules
+pub mod Writing

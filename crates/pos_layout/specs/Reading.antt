@@ -11,7 +11,8 @@ use Rattle.pos_layout.specs.declared.entry.ParkEntry.{ParkEntry}
 use Rattle.pos_layout.specs.declared.damage.Damage.{Damage}
 use Rattle.pos_layout.specs.declared.damage.Damage.TheVariants.{Directory, Digest, Form as WrongForm, Pointer}
 use Rattle.pos_layout.specs.Forms.{Form, longest_park, park_count}
-use Rattle.pos_layout.specs.Lists.{f7_in, points_inside}
+use Rattle.pos_layout.specs.Lists.{points_inside}
+use Rattle.pos_lists.specs.PlotLists.{f7_in}
 use Rattle.pos_layout.specs.Fields.{header_in, count_of, directory_of, end_of, entry_in, park_in}
 
 -- a value that passed a test, or the damage that the test shows

@@ -9,7 +9,8 @@ use Rattle.pos_layout.specs.declared.entry.ParkEntry.{ParkEntry}
 use Rattle.pos_layout.specs.declared.header.TheConstants.{HEADER_BYTES, LEAST_SIZE, GREATEST_SIZE}
 use Rattle.pos_layout.specs.Bytes.{part}
 use Rattle.pos_layout.specs.Forms.{Form, longest_park, parks_of}
-use Rattle.pos_layout.specs.Lists.{PlotLists, numbers, IsInRange, f7_in}
+use Rattle.pos_lists.specs.PlotLists.{PlotLists, numbers, f7_in}
+use Rattle.pos_lists.specs.Trees.{IsInRange}
 use Rattle.pos_layout.specs.Fields.{gate_in, name_in, zeros_in, header_in, count_of, directory_of, end_of, entry_in, park_in}
 
 -- table t's directory lies after the table before and ends inside the file; a table without numbers has no park

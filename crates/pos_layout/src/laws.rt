@@ -1,6 +1,7 @@
 //! What holds of plot files, whatever the code: each law is what a function with an empty body ensures.
 
-ghost use Rattle.pos_layout.specs.FileLaws.{OwnIsAForm, BareIsAPlot, AFileStoresItsPlot, AFileIsWell, AFileIsBytes, AStoredPlotIsAPlot, OnePlot, OneFile, OneFileOfAPlot, OpeningFindsNothing, OpeningFindsTheCause, OpenImageIsTheFile, OpensIsTheFile, ShutDoesNotOpen, TinyDoesNotOpen, PointsInsideByPairs};
+ghost use Rattle.pos_layout.specs.FileLaws.{OwnIsAForm, BareIsAPlot, AFileStoresItsPlot, AFileIsWell, AFileIsBytes, AStoredPlotIsAPlot, OneStoredPlot, OneFile, OneFileOfAPlot, OpeningFindsNothing, OpeningFindsTheCause, OpenImageIsTheFile, OpensIsTheFile, ShutDoesNotOpen, TinyDoesNotOpen, PointsInsideByPairs};
+ghost use Rattle.pos_layout.specs.ReadingLaws.{ParksAreRead, HeadsAreRead, CountsAreRead, NumbersAreRead, AWholeFileShowsItsLists, NumbersPointInside, AnyFileReadsValues};
 
 /// The first layout is a form, and at each size each id has a plot with seven empty tables, so the laws below speak of something.
 pub fn forms_and_plots_are_there()
@@ -19,7 +20,7 @@ pub fn a_file_stores_its_plot()
 /// What a file of bytes stores is a plot, and the file stores no other.
 pub fn a_file_has_one_plot()
     ensures a_plot { AStoredPlotIsAPlot }
-    ensures one { OnePlot }
+    ensures one { OneStoredPlot }
 {}
 
 /// What stores a plot is the file of the plot, so at most one file stores it.
@@ -49,4 +50,26 @@ pub fn only_the_finished_file_opens()
 /// The greater of a line point's pair is below a count exactly where the line point is below the count of pairs below it.
 pub fn points_inside_are_counted_by_pairs()
     ensures { PointsInsideByPairs }
+{}
+
+/// Over the file of a plot each park reads as its part of the table's list, a head as the f7 of its park's first number, a
+/// count as how many numbers of the park have a lesser f7, and where no number points outside each place as the list's number.
+pub fn reading_shows_the_lists()
+    ensures parks { ParksAreRead }
+    ensures heads { HeadsAreRead }
+    ensures counts { CountsAreRead }
+    ensures numbers { NumbersAreRead }
+{}
+
+/// A whole file shows numbers that rise, point inside and are read as they stand, with few enough in table 6: all that the
+/// laws on plain lists ask for.
+pub fn a_whole_file_shows_its_lists()
+    ensures { AWholeFileShowsItsLists }
+{}
+
+/// Whatever the bytes of a file are, a number that is read points inside by the counts of the header, and in table 1 to two
+/// values of k bits.
+pub fn numbers_that_are_read_point_inside()
+    ensures inside { NumbersPointInside }
+    ensures values { AnyFileReadsValues }
 {}

@@ -1,24 +1,17 @@
 //! A file whose first byte, its gate, stays 0 until all else is on the disk.
-ghost use Rattle.std.specs.Prelude.{◌≡◌, ◌+◌, ◌++◌, ◌^◌, ◌<◌, ◌≤◌, ℕ, List, length, replicate, IfErr, IsErrOf, IsTrue, OnErr, OnOk};
-ghost use Rattle.pos_edge.specs.Faults.{Rose};
-ghost use Rattle.pos_edge.specs.Frame.{ChangesFile, KeepsIds, Nothing};
-ghost use Rattle.pos_edge.specs.Images.{ImagesBy, Stays, Tears};
+ghost use Rattle.std.specs.Prelude.{◌≡◌, ◌+◌, ◌++◌, ◌^◌, ◌<◌, ◌≤◌, ℕ, List, length, replicate, IsTrue, OnOk};
+ghost use Rattle.pos_edge.specs.Images.{Stays, Tears};
 ghost use Rattle.pos_edge.specs.Calls.{IsSynced, IsThere, IsWritten, SameContents};
-ghost use Rattle.pos_layout.specs.Drafts.{IsWriteFault};
-ghost use Rattle.pos_layout.specs.Images.{EachImageOf, Holds, HoldsShut, IsFresh, IsShut, IsShutOr, IsTinyOrShut, opened};
+ghost use Rattle.pos_layout.specs.Images.{Holds, HoldsShut, IsFresh, IsShut, IsShutOr, IsTinyOrShut, opened};
+ghost use Rattle.pos_layout.specs.Writing.{Works, WorksBy};
 
 use pos_edge::{Disk, DiskFailed, FileId, WorkFault, WriteFault};
 
 /// Writes a closed gate into a fresh file, and only after it is on the disk zeros up to the end of a header.
 pub(crate) fn begin_shut<D: Disk>(disk: &mut D, file: FileId) -> Result<(), WorkFault>
     requires { IsFresh file.0 (D.view disk.old) }
-    ensures kept { ChangesFile file.0 (D.view disk.old) (D.view disk.new) }
-    ensures ids { KeepsIds Nothing (D.view disk.old) (D.view disk.new) }
-    ensures reads { (D.view disk.new).reads ≡ (D.view disk.old).reads }
-    ensures images { EachImageOf IsTinyOrShut file.0 (D.view disk.old) (D.view disk.new) }
+    ensures works { Works IsTinyOrShut file.0 result (D.view disk.old) (D.view disk.new) }
     ensures ok { OnOk result (HoldsShut file.0 (replicate 176 0) (D.view disk.new)) }
-    ensures fault { IfErr result IsWriteFault }
-    ensures failed { IsErrOf result WorkFault.DiskFailed → Rose (D.view disk.old).faults (D.view disk.new).faults }
 {
     write(disk, file, 0, &[0])?;
     sync(disk, file)?;
@@ -34,14 +27,9 @@ pub(crate) fn append<D: Disk>(
 ) -> Result<(), WorkFault>
     requires held { (b : List ℕ) × HoldsShut file.0 b (D.view disk.old) × (length b ≡ at) }
     requires fits { at + length piece.now < 2 ^ 63 }
-    ensures kept { ChangesFile file.0 (D.view disk.old) (D.view disk.new) }
-    ensures ids { KeepsIds Nothing (D.view disk.old) (D.view disk.new) }
-    ensures reads { (D.view disk.new).reads ≡ (D.view disk.old).reads }
-    ensures images { EachImageOf IsShut file.0 (D.view disk.old) (D.view disk.new) }
+    ensures works { Works IsShut file.0 result (D.view disk.old) (D.view disk.new) }
     ensures ok { OnOk result ((b : List ℕ) → HoldsShut file.0 b (D.view disk.old) → length b ≡ at
         → HoldsShut file.0 (b ++ piece.now) (D.view disk.new)) }
-    ensures fault { IfErr result IsWriteFault }
-    ensures failed { IsErrOf result WorkFault.DiskFailed → Rose (D.view disk.old).faults (D.view disk.new).faults }
 {
     write(disk, file, at, piece)
 }
@@ -54,15 +42,10 @@ pub(crate) fn finish_shut<D: Disk>(
 ) -> Result<(), WorkFault>
     requires held { (b : List ℕ) × HoldsShut file.0 b (D.view disk.old) × (176 ≤ length b) }
     requires header { length header.now ≡ 175 }
-    ensures kept { ChangesFile file.0 (D.view disk.old) (D.view disk.new) }
-    ensures ids { KeepsIds Nothing (D.view disk.old) (D.view disk.new) }
-    ensures reads { (D.view disk.new).reads ≡ (D.view disk.old).reads }
-    ensures images { (b : List ℕ) → HoldsShut file.0 b (D.view disk.old) → 176 ≤ length b
-        → EachImageOf (IsShutOr (opened header.now b)) file.0 (D.view disk.old) (D.view disk.new) }
+    ensures works { (b : List ℕ) → HoldsShut file.0 b (D.view disk.old) → 176 ≤ length b
+        → Works (IsShutOr (opened header.now b)) file.0 result (D.view disk.old) (D.view disk.new) }
     ensures ok { OnOk result ((b : List ℕ) → HoldsShut file.0 b (D.view disk.old) → 176 ≤ length b
         → Holds file.0 (opened header.now b) (D.view disk.new)) }
-    ensures fault { IfErr result IsWriteFault }
-    ensures failed { IsErrOf result WorkFault.DiskFailed → Rose (D.view disk.old).faults (D.view disk.new).faults }
 {
     write(disk, file, 1, header)?;
     sync(disk, file)?;
@@ -76,13 +59,8 @@ fn write<D: Disk>(disk: &mut D, file: FileId, at: u64, piece: &[u8]) -> Result<(
     requires there { IsThere file.0 (D.view disk.old) }
     requires within { at ≤ (D.view disk.old).size_of file.0 }
     requires fits { at + length piece.now < 2 ^ 63 }
-    ensures kept { ChangesFile file.0 (D.view disk.old) (D.view disk.new) }
-    ensures ids { KeepsIds Nothing (D.view disk.old) (D.view disk.new) }
-    ensures reads { (D.view disk.new).reads ≡ (D.view disk.old).reads }
-    ensures images { ImagesBy (Tears at (length piece.now)) file.0 (D.view disk.old) (D.view disk.new) }
+    ensures works { WorksBy (Tears at (length piece.now)) file.0 result (D.view disk.old) (D.view disk.new) }
     ensures ok { OnOk result (IsWritten file.0 at piece.now (D.view disk.old) (D.view disk.new)) }
-    ensures fault { IfErr result IsWriteFault }
-    ensures failed { IsErrOf result WorkFault.DiskFailed → Rose (D.view disk.old).faults (D.view disk.new).faults }
 {
     match disk.write_at(file, at, piece) {
         Ok(()) => Ok(()),
@@ -95,15 +73,10 @@ fn write<D: Disk>(disk: &mut D, file: FileId, at: u64, piece: &[u8]) -> Result<(
 fn sync<D: Disk>(disk: &mut D, file: FileId) -> Result<(), WorkFault>
     requires live { IsTrue ((D.view disk.old).is_live file.0) }
     requires there { IsThere file.0 (D.view disk.old) }
-    ensures kept { ChangesFile file.0 (D.view disk.old) (D.view disk.new) }
-    ensures ids { KeepsIds Nothing (D.view disk.old) (D.view disk.new) }
-    ensures reads { (D.view disk.new).reads ≡ (D.view disk.old).reads }
+    ensures works { WorksBy Stays file.0 result (D.view disk.old) (D.view disk.new) }
     ensures size { (D.view disk.new).size_of file.0 ≡ (D.view disk.old).size_of file.0 }
     ensures contents { SameContents (D.view disk.old) (D.view disk.new) }
-    ensures images { ImagesBy Stays file.0 (D.view disk.old) (D.view disk.new) }
     ensures ok { OnOk result (IsSynced file.0 (D.view disk.new)) }
-    ensures fault { IfErr result IsWriteFault }
-    ensures failed { OnErr result (Rose (D.view disk.old).faults (D.view disk.new).faults) }
 {
     match disk.sync(file) {
         Ok(()) => Ok(()),

@@ -1,6 +1,5 @@
 ghost use Rattle.std.specs.Prelude.{◌≡◌, ◌+◌, ◌^◌, ◌<◌, ◌≤◌, All, length, OnOk};
-ghost use Rattle.pos_layout.specs.Drafts.{Draft, Stands};
-ghost use Rattle.pos_layout.specs.Forms.{own};
+ghost use Rattle.pos_layout.specs.Writing.{IsStanding};
 
 use super::*;
 use pos_edge::{CreateFault, Disk, MemoryDisk, WorkFault};
@@ -12,12 +11,12 @@ use std::test::Fail;
 
 /// Adds the numbers from 0 on, so many, and ends the table.
 fn write_table<D: Disk>(writer: &mut PlotWriter, disk: &mut D, count: u64) -> Result<(), WorkFault>
-    requires stands { (p : Draft) × Stands own writer.old p (D.view disk.old) }
+    requires stands { IsStanding writer.old (D.view disk.old) }
     requires tables { length writer.old.columns < 7 }
     requires none { writer.old.count ≡ 0 }
     requires first { writer.old.least ≡ 0 }
     requires few { count ≤ 2 ^ (writer.old.size + 1) }
-    ensures stands { OnOk result ((p : Draft) × Stands own writer.new p (D.view disk.new)) }
+    ensures stands { OnOk result (IsStanding writer.new (D.view disk.new)) }
     ensures tables { OnOk result (length writer.new.columns ≡ length writer.old.columns + 1) }
     ensures none { OnOk result (writer.new.count ≡ 0) }
     ensures first { OnOk result (writer.new.least ≡ 0) }
@@ -136,7 +135,12 @@ fn no_image_opens_but_the_finished_file_wherever_the_disk_stops(
     for calls in 0..=whole.calls() {
         let mut disk = MemoryDisk::stopping(alloc, calls);
         let answer = write_plot(alloc, &mut disk, Size::of(10), &counts);
-        assert_eq!(rt; answer.is_ok(), calls == whole.calls(), "{calls} calls");
+        let want = if calls == whole.calls() {
+            Ok(finished.len() as u64)
+        } else {
+            Err(WorkFault::DiskFailed)
+        };
+        assert_eq!(rt; answer, want, "{calls} calls");
         for writes in 0..20 {
             if let Some(image) = disk.image(alloc, "p", writes)? {
                 let opens = image.first() == Some(&1);

@@ -1,12 +1,11 @@
 //! The writer of a plot file.
-ghost use Rattle.std.specs.Prelude.{◌≡◌, ◌+◌, ◌*◌, ◌^◌, ◌<◌, ◌≤◌, ◌∷◌, [], ◌++◌, ℕ, List, length, IfOk, IfErr, IsErrOf, OnOk};
+ghost use Rattle.std.specs.Prelude.{◌≡◌, ◌<◌, ◌≤◌, ◌∷◌, [], ◌++◌, ℕ, List, length, IfOk, OnOk};
 ghost use Rattle.pos_bits.specs.Bits.{AreBytes};
-ghost use Rattle.pos_edge.specs.Faults.{Rose};
-ghost use Rattle.pos_edge.specs.Frame.{ChangesFile, KeepsIds, Nothing};
 ghost use Rattle.pos_layout.specs.Forms.{own};
 ghost use Rattle.pos_layout.specs.Files.{file_of, parks_in};
-ghost use Rattle.pos_layout.specs.Drafts.{Draft, Keeps, Stands, begun, added, table_ended, plot_of, count_so_far, SameTable, IsFinished, IsWriteFault};
-ghost use Rattle.pos_layout.specs.Images.{EachImageOf, IsFresh, IsShut, IsShutOr, IsTinyOrShut};
+ghost use Rattle.pos_layout.specs.Drafts.{Draft, Keeps, Stands, begun, added, table_ended, plot_of, count_so_far, SameTable, IsFinished};
+ghost use Rattle.pos_layout.specs.Images.{IsFresh, IsShut, IsShutOr, IsTinyOrShut};
+ghost use Rattle.pos_layout.specs.Writing.{Works, IsStanding, Goes, IsBegun, MayAdd, SameFile, OneMore, OpensNext};
 
 use crate::entry::park_entry;
 use crate::shut::{append, begin_shut, finish_shut};
@@ -71,18 +70,9 @@ impl PlotWriter {
     ) -> Result<PlotWriter, WorkFault>
         requires size { size ≤ GREATEST_SIZE }
         requires fresh { IsFresh file.0 (D.view disk.old) }
-        ensures kept { ChangesFile file.0 (D.view disk.old) (D.view disk.new) }
-        ensures ids { KeepsIds Nothing (D.view disk.old) (D.view disk.new) }
-        ensures reads { (D.view disk.new).reads ≡ (D.view disk.old).reads }
-        ensures images { EachImageOf IsTinyOrShut file.0 (D.view disk.old) (D.view disk.new) }
-        ensures file { IfOk result (λ w. w.file ≡ file.0) }
-        ensures size { IfOk result (λ w. w.size ≡ size) }
-        ensures columns { IfOk result (λ w. w.columns ≡ []) }
-        ensures count { IfOk result (λ w. w.count ≡ 0) }
-        ensures least { IfOk result (λ w. w.least ≡ 0) }
+        ensures works { Works IsTinyOrShut file.0 result (D.view disk.old) (D.view disk.new) }
+        ensures begun { IfOk result (IsBegun file.0 size) }
         ensures ok { IfOk result (λ w. Stands own w (begun id.now.0 size) (D.view disk.new)) }
-        ensures fault { IfErr result IsWriteFault }
-        ensures failed { IsErrOf result WorkFault.DiskFailed → Rose (D.view disk.old).faults (D.view disk.new).faults }
     {
         are_id_bytes(&id.0);
         begin_shut(disk, file)?;
@@ -109,24 +99,13 @@ impl PlotWriter {
     /// Fewer than seven tables are ended, the number is above the last one of the table and has 2k + 2 bits, and the table
     /// has fewer than 2^(k + 1) numbers. A fault ends the writer, and the file does not open.
     pub fn add<D: Disk>(&mut self, disk: &mut D, number: u128) -> Result<(), WorkFault>
-        requires stands { (p : Draft) × Stands own self.old p (D.view disk.old) }
-        requires tables { length self.old.columns < 7 }
-        requires above { self.old.least ≤ number }
-        requires below { number < 2 ^ (2 * self.old.size + 2) }
-        requires few { self.old.count < 2 ^ (self.old.size + 1) }
-        ensures kept { ChangesFile self.old.file (D.view disk.old) (D.view disk.new) }
-        ensures ids { KeepsIds Nothing (D.view disk.old) (D.view disk.new) }
-        ensures reads { (D.view disk.new).reads ≡ (D.view disk.old).reads }
-        ensures images { EachImageOf IsShut self.old.file (D.view disk.old) (D.view disk.new) }
-        ensures file { self.new.file ≡ self.old.file }
-        ensures size { self.new.size ≡ self.old.size }
+        requires stands { IsStanding self.old (D.view disk.old) }
+        requires next { MayAdd number self.old }
+        ensures works { Works IsShut self.old.file result (D.view disk.old) (D.view disk.new) }
+        ensures same { SameFile self.old self.new }
         ensures columns { self.new.columns ≡ self.old.columns }
-        ensures count { OnOk result (self.new.count ≡ self.old.count + 1) }
-        ensures least { OnOk result (self.new.least ≡ number + 1) }
-        ensures ok { OnOk result ((p : Draft) → Stands own self.old p (D.view disk.old)
-            → Stands own self.new (added number p) (D.view disk.new)) }
-        ensures fault { IfErr result IsWriteFault }
-        ensures failed { IsErrOf result WorkFault.DiskFailed → Rose (D.view disk.old).faults (D.view disk.new).faults }
+        ensures one_more { OnOk result (OneMore number self.old self.new) }
+        ensures ok { OnOk result (Goes (added number) self.old self.new (D.view disk.old) (D.view disk.new)) }
     {
         self.park.push(number).map_err(|_| WorkFault::Memory)?;
         self.count += 1;
@@ -141,21 +120,12 @@ impl PlotWriter {
     ///
     /// Fewer than seven tables are ended. A fault ends the writer, and the file does not open.
     pub fn end_table<D: Disk>(&mut self, disk: &mut D) -> Result<(), WorkFault>
-        requires stands { (p : Draft) × Stands own self.old p (D.view disk.old) }
+        requires stands { IsStanding self.old (D.view disk.old) }
         requires tables { length self.old.columns < 7 }
-        ensures kept { ChangesFile self.old.file (D.view disk.old) (D.view disk.new) }
-        ensures ids { KeepsIds Nothing (D.view disk.old) (D.view disk.new) }
-        ensures reads { (D.view disk.new).reads ≡ (D.view disk.old).reads }
-        ensures images { EachImageOf IsShut self.old.file (D.view disk.old) (D.view disk.new) }
-        ensures file { self.new.file ≡ self.old.file }
-        ensures size { self.new.size ≡ self.old.size }
-        ensures columns { OnOk result (length self.new.columns ≡ length self.old.columns + 1) }
-        ensures count { OnOk result (self.new.count ≡ 0) }
-        ensures least { OnOk result (self.new.least ≡ 0) }
-        ensures ok { OnOk result ((p : Draft) → Stands own self.old p (D.view disk.old)
-            → Stands own self.new (table_ended p) (D.view disk.new)) }
-        ensures fault { IfErr result IsWriteFault }
-        ensures failed { IsErrOf result WorkFault.DiskFailed → Rose (D.view disk.old).faults (D.view disk.new).faults }
+        ensures works { Works IsShut self.old.file result (D.view disk.old) (D.view disk.new) }
+        ensures same { SameFile self.old self.new }
+        ensures next { OnOk result (OpensNext self.old self.new) }
+        ensures ok { OnOk result (Goes table_ended self.old self.new (D.view disk.old) (D.view disk.new)) }
     {
         self.write_rest(disk)?;
         self.write_directory(disk)
@@ -166,17 +136,12 @@ impl PlotWriter {
     ///
     /// Seven tables are ended. After a fault each image of the file does not open or is the finished file.
     pub fn finish<D: Disk>(self, disk: &mut D) -> Result<u64, WorkFault>
-        requires stands { (p : Draft) × Stands own self p (D.view disk.old) }
+        requires stands { IsStanding self (D.view disk.old) }
         requires tables { length self.columns ≡ 7 }
-        ensures kept { ChangesFile self.file (D.view disk.old) (D.view disk.new) }
-        ensures ids { KeepsIds Nothing (D.view disk.old) (D.view disk.new) }
-        ensures reads { (D.view disk.new).reads ≡ (D.view disk.old).reads }
-        ensures images { (p : Draft) → Stands own self p (D.view disk.old)
-            → EachImageOf (IsShutOr (file_of own (plot_of p))) self.file (D.view disk.old) (D.view disk.new) }
+        ensures works { (p : Draft) → Stands own self p (D.view disk.old)
+            → Works (IsShutOr (file_of own (plot_of p))) self.file result (D.view disk.old) (D.view disk.new) }
         ensures ok { IfOk result (λ total. (p : Draft) → Stands own self p (D.view disk.old)
             → IsFinished own self.file (plot_of p) total (D.view disk.new)) }
-        ensures fault { IfErr result IsWriteFault }
-        ensures failed { IsErrOf result WorkFault.DiskFailed → Rose (D.view disk.old).faults (D.view disk.new).faults }
     {
         let columns = self.columns;
         let bytes = encode_header(&Header {
@@ -195,16 +160,11 @@ impl PlotWriter {
         requires tables { length self.old.columns < 7 }
         requires some { 1 ≤ length self.old.park }
         requires few { length self.old.park ≤ MOST_NUMBERS }
-        ensures kept { ChangesFile self.old.file (D.view disk.old) (D.view disk.new) }
-        ensures ids { KeepsIds Nothing (D.view disk.old) (D.view disk.new) }
-        ensures reads { (D.view disk.new).reads ≡ (D.view disk.old).reads }
-        ensures images { EachImageOf IsShut self.old.file (D.view disk.old) (D.view disk.new) }
+        ensures works { Works IsShut self.old.file result (D.view disk.old) (D.view disk.new) }
         ensures same { SameTable self.old self.new }
         ensures park { OnOk result (self.new.park ≡ []) }
         ensures ok { OnOk result ((p : Draft) (parks : List (List ℕ)) → Keeps own self.old p parks (D.view disk.old)
             → Keeps own self.new p (parks ++ self.old.park ∷ []) (D.view disk.new)) }
-        ensures fault { IfErr result IsWriteFault }
-        ensures failed { IsErrOf result WorkFault.DiskFailed → Rose (D.view disk.old).faults (D.view disk.new).faults }
     {
         let park = encode_park(self.alloc, self.size.k(), &self.park).map_err(
             |_| WorkFault::Memory,
@@ -227,18 +187,13 @@ impl PlotWriter {
 
     /// Writes the numbers of the open table that are not in the file yet, if there are any, as its last park.
     fn write_rest<D: Disk>(&mut self, disk: &mut D) -> Result<(), WorkFault>
-        requires stands { (p : Draft) × Stands own self.old p (D.view disk.old) }
+        requires stands { IsStanding self.old (D.view disk.old) }
         requires tables { length self.old.columns < 7 }
-        ensures kept { ChangesFile self.old.file (D.view disk.old) (D.view disk.new) }
-        ensures ids { KeepsIds Nothing (D.view disk.old) (D.view disk.new) }
-        ensures reads { (D.view disk.new).reads ≡ (D.view disk.old).reads }
-        ensures images { EachImageOf IsShut self.old.file (D.view disk.old) (D.view disk.new) }
+        ensures works { Works IsShut self.old.file result (D.view disk.old) (D.view disk.new) }
         ensures same { SameTable self.old self.new }
         ensures park { OnOk result (self.new.park ≡ []) }
         ensures ok { OnOk result ((p : Draft) → Stands own self.old p (D.view disk.old)
             → Keeps own self.new p (parks_in own p.numbers) (D.view disk.new)) }
-        ensures fault { IfErr result IsWriteFault }
-        ensures failed { IsErrOf result WorkFault.DiskFailed → Rose (D.view disk.old).faults (D.view disk.new).faults }
     {
         if self.park.is_empty() {
             return Ok(());
@@ -251,20 +206,12 @@ impl PlotWriter {
         requires keeps { (p : Draft) × (parks : List (List ℕ)) × Keeps own self.old p parks (D.view disk.old) }
         requires tables { length self.old.columns < 7 }
         requires written { self.old.park ≡ [] }
-        ensures kept { ChangesFile self.old.file (D.view disk.old) (D.view disk.new) }
-        ensures ids { KeepsIds Nothing (D.view disk.old) (D.view disk.new) }
-        ensures reads { (D.view disk.new).reads ≡ (D.view disk.old).reads }
-        ensures images { EachImageOf IsShut self.old.file (D.view disk.old) (D.view disk.new) }
-        ensures file { self.new.file ≡ self.old.file }
-        ensures size { self.new.size ≡ self.old.size }
-        ensures columns { OnOk result (length self.new.columns ≡ length self.old.columns + 1) }
-        ensures count { OnOk result (self.new.count ≡ 0) }
-        ensures least { OnOk result (self.new.least ≡ 0) }
+        ensures works { Works IsShut self.old.file result (D.view disk.old) (D.view disk.new) }
+        ensures same { SameFile self.old self.new }
+        ensures next { OnOk result (OpensNext self.old self.new) }
         ensures ok { OnOk result ((p : Draft) → Keeps own self.old p (parks_in own p.numbers) (D.view disk.old)
             → Keeps own self.new (table_ended p) [] (D.view disk.new)) }
         ensures park { OnOk result (self.new.park ≡ []) }
-        ensures fault { IfErr result IsWriteFault }
-        ensures failed { IsErrOf result WorkFault.DiskFailed → Rose (D.view disk.old).faults (D.view disk.new).faults }
     {
         append(disk, self.file, self.file_length, &self.entries)?;
         self.columns[self.ended] = Column {

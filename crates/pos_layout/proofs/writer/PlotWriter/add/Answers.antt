@@ -9,7 +9,7 @@ use Rattle.pos_layout.proofs.writer.PlotWriter.add.Goals as goal
 pub overflow_add-self-2 : goal.overflow_add-self-2
 overflow_add-self-2 g c =
     let r = c.requires.stands in
-    let fits = next_fits own c.args.self.now r.0 (g.D.Disk.view c.args.disk.now) c.args.number r.1 c.requires.below in
+    let fits = next_fits own c.args.self.now r.0 (g.D.Disk.view c.args.disk.now) c.args.number r.1 c.requires.next.below in
     omega arith
 
 pub write_park-requires-clause-keeps : goal.write_park-requires-clause-keeps
@@ -20,7 +20,7 @@ write_park-requires-clause-keeps g c =
     let park : c.push.new.self.items ≡ w.park ++ c.args.number ∷ [] = search rules in (
       added c.args.number r.0,
       r.1.parks,
-      kept_number own w (the_view (record c.self.inside { count = c.self.inside.count + 1; least = c.args.number + 1; park = c.push.new.self })) r.0 r.1.parks c.args.number (g.D.Disk.view c.args.disk.now) h (rw (← c.self.view_is) at c.requires.tables) (rw (← c.self.view_is) at c.requires.above) (rw (← c.self.view_is) at c.requires.below) (rw (← c.self.view_is) at c.requires.few)
+      kept_number own w (the_view (record c.self.inside { count = c.self.inside.count + 1; least = c.args.number + 1; park = c.push.new.self })) r.0 r.1.parks c.args.number (g.D.Disk.view c.args.disk.now) h (rw (← c.self.view_is) at c.requires.next.tables) (rw (← c.self.view_is) at c.requires.next.above) (rw (← c.self.view_is) at c.requires.next.below) (rw (← c.self.view_is) at c.requires.next.few)
           refl refl refl refl refl refl park refl refl,
     )
 
@@ -32,7 +32,7 @@ returns-in_ok-write_park-clause-ok g c = λ p s.
     let full : length c.push.new.self.items ≡ 2048 = search rules in
     full_stands own (the_view (record c.self.inside { count = c.self.inside.count + 1; least = c.args.number + 1; park = c.push.new.self })) c.write_park.new.self (added c.args.number p) s.parks (g.D.Disk.view c.write_park.new.disk) (omega arith) s.full full c.in_ok-write_park.ensures.park
     (c.in_ok-write_park.ensures.ok (added c.args.number p) s.parks
-    (kept_number own w (the_view (record c.self.inside { count = c.self.inside.count + 1; least = c.args.number + 1; park = c.push.new.self })) p s.parks c.args.number (g.D.Disk.view c.args.disk.now) h (rw (← c.self.view_is) at c.requires.tables) (rw (← c.self.view_is) at c.requires.above) (rw (← c.self.view_is) at c.requires.below) (rw (← c.self.view_is) at c.requires.few)
+    (kept_number own w (the_view (record c.self.inside { count = c.self.inside.count + 1; least = c.args.number + 1; park = c.push.new.self })) p s.parks c.args.number (g.D.Disk.view c.args.disk.now) h (rw (← c.self.view_is) at c.requires.next.tables) (rw (← c.self.view_is) at c.requires.next.above) (rw (← c.self.view_is) at c.requires.next.below) (rw (← c.self.view_is) at c.requires.next.few)
     refl refl refl refl refl refl park refl refl))
 
 pub returns-else-len-eq-MOST_NUMBERS-clause-ok : goal.returns-else-len-eq-MOST_NUMBERS-clause-ok
@@ -44,7 +44,7 @@ returns-else-len-eq-MOST_NUMBERS-clause-ok g c = λ p s.
     let more : length c.push.new.self.items ≡ length w.park + 1 = ap length park ∙ length_push w.park c.args.number in
     let other : length c.push.new.self.items ≢ 2048 = search rules in record {
       parks = s.parks;
-      keeps = kept_number own w (the_view (record c.self.inside { count = c.self.inside.count + 1; least = c.args.number + 1; park = c.push.new.self })) p s.parks c.args.number (g.D.Disk.view c.args.disk.now) h (rw (← c.self.view_is) at c.requires.tables) (rw (← c.self.view_is) at c.requires.above) (rw (← c.self.view_is) at c.requires.below) (rw (← c.self.view_is) at c.requires.few)
+      keeps = kept_number own w (the_view (record c.self.inside { count = c.self.inside.count + 1; least = c.args.number + 1; park = c.push.new.self })) p s.parks c.args.number (g.D.Disk.view c.args.disk.now) h (rw (← c.self.view_is) at c.requires.next.tables) (rw (← c.self.view_is) at c.requires.next.above) (rw (← c.self.view_is) at c.requires.next.below) (rw (← c.self.view_is) at c.requires.next.few)
           refl refl refl refl refl refl park refl refl;
       full = s.full;
       short = omega arith;

@@ -1,17 +1,20 @@
-use Rattle.std.proofs.Common.{◌≡◌, ◌≤◌, min, length, drop, take, refl, sym, ap, ◌∙◌, subst, arith}
+use Rattle.std.proofs.lemmas.Result.{err_from_is_err_and}
+use Rattle.std.proofs.Common.{Ok, ◌≡◌, ◌≤◌, min, length, drop, take, refl, sym, ap, ◌∙◌, subst, arith}
 use Rattle.std.proofs.lemmas.List.{take_all, length-take, length-drop}
 use Rattle.pos_layout.specs.declared.header.Header.{Header}
 use Rattle.pos_layout.specs.Forms.{own}
 use Rattle.pos_layout.specs.Files.{file_of}
-use Rattle.pos_layout.specs.Images.{EachImageOf, Holds, IsShutOr, opened}
+use Rattle.pos_layout.specs.Images.{Holds, IsShutOr, opened}
+use Rattle.pos_layout.specs.Writing.{Works}
+use Rattle.pos_layout.proofs.WorksLemmas.{works_exit, works_ok}
 use Rattle.pos_layout.specs.Drafts.{Stands, plot_of, draft_bytes}
 use Rattle.pos_layout.specs.contracts.writer.PlotWriter.{the_view}
 use Rattle.pos_layout.proofs.WriterLemmas.{all_ended, finished_header, finished_file, plot_from_draft, own_form, length-draft, length-opened}
 use Rattle.pos_layout.proofs.FilePlots.{file_stores}
 use Rattle.pos_layout.proofs.writer.PlotWriter.finish.Goals as goal
 
-pub returns-in_err-finish_shut-clause-images : goal.returns-in_err-finish_shut-clause-images
-returns-in_err-finish_shut-clause-images g c = λ p stands.
+pub returns-in_err-finish_shut-clause-works : goal.returns-in_err-finish_shut-clause-works
+returns-in_err-finish_shut-clause-works g c = λ p stands.
     let w = the_view c.self.inside in
     let v = g.D.Disk.view c.args.disk.now in
     let s : Stands own w p v = rw (← c.self.view_is) at stands in
@@ -29,10 +32,12 @@ returns-in_err-finish_shut-clause-images g c = λ p stands.
     let is : opened header b ≡ file_of own (plot_of p) =
     finished_file own w p v h header (omega arith) s seven (finished_header own w p v c.self.inside.id.0 c.self.inside.size c.self.inside.columns c.self.inside.file_length (omega arith) s seven refl refl columns refl)
     (header_is ∙ ap (drop 1) c.encode_header-bytes.ensures.bytes) in
-    rw (← c.self.view_is) (subst (λ o. EachImageOf (IsShutOr o) w.file v (g.D.Disk.view c.finish_shut.new.disk)) is (c.finish_shut.ensures.images b s.keeps.file long))
+    let p' = err_from_is_err_and c.from_residual.result c.from_residual.ensures.1 in
+    rw (← c.self.view_is) (subst (λ o. Works (IsShutOr o) w.file c.from_residual.result v (g.D.Disk.view c.finish_shut.new.disk)) is
+    (works_exit (IsShutOr (opened header b)) w.file c.from_residual.result p'.0 c.in_err-finish_shut.field-0.0 v (g.D.Disk.view c.finish_shut.new.disk) p'.1 p'.2 (c.in_err-finish_shut.ensures.works b s.keeps.file long)))
 
-pub returns-clause-images : goal.returns-clause-images
-returns-clause-images g c = λ p stands.
+pub returns-clause-works : goal.returns-clause-works
+returns-clause-works g c = λ p stands.
     let w = the_view c.self.inside in
     let v = g.D.Disk.view c.args.disk.now in
     let s : Stands own w p v = rw (← c.self.view_is) at stands in
@@ -50,7 +55,8 @@ returns-clause-images g c = λ p stands.
     let is : opened header b ≡ file_of own (plot_of p) =
     finished_file own w p v h header (omega arith) s seven (finished_header own w p v c.self.inside.id.0 c.self.inside.size c.self.inside.columns c.self.inside.file_length (omega arith) s seven refl refl columns refl)
     (header_is ∙ ap (drop 1) c.encode_header-bytes.ensures.bytes) in
-    rw (← c.self.view_is) (subst (λ o. EachImageOf (IsShutOr o) w.file v (g.D.Disk.view c.finish_shut.new.disk)) is (c.finish_shut.ensures.images b s.keeps.file long))
+    rw (← c.self.view_is) (subst (λ o. Works (IsShutOr o) w.file (Ok c.self.inside.file_length) v (g.D.Disk.view c.finish_shut.new.disk)) is
+    (works_ok (IsShutOr (opened header b)) w.file _ c.self.inside.file_length v (g.D.Disk.view c.finish_shut.new.disk) (c.in_ok-finish_shut.ensures.works b s.keeps.file long)))
 
 pub returns-clause-ok : goal.returns-clause-ok
 returns-clause-ok g c = λ p stands.
