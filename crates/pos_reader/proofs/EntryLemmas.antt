@@ -1,5 +1,5 @@
 -- What makes an entry one that a park can have.
-use Rattle.std.proofs.Common.{◌≡◌, ℕ, ◌+◌, ◌-◌, ◌*◌, ◌<◌, ◌≤◌, ◌≢◌, ◌==◌, ◌||◌, refl, sym, arith, Bool, true, false, ◌&&◌, List, Ok, Err}
+use Rattle.std.proofs.Common.{◌≡◌, ℕ, ◌+◌, ◌-◌, ◌*◌, ◌<◌, ◌≤◌, ◌==◌, ◌||◌, refl, sym, arith, Bool, true, false, ◌&&◌, List, Ok, Err}
 use Rattle.std.proofs.lemmas.Bool.{false≢true}
 use Rattle.std.proofs.lemmas.Bool.Decides.{nat_tests}
 use Rattle.pos_layout.specs.declared.header.Header.{Header}
@@ -10,19 +10,12 @@ use Rattle.pos_layout.specs.Bytes.{part}
 use Rattle.pos_layout.specs.Fields.{count_of, directory_of, end_of, entry_in, header_in}
 use Rattle.pos_layout.specs.Reading.{is_listed, numbers_by, read_entry, read_park}
 use Rattle.pos_layout.specs.Rules.{IsLaidOut}
+use Rattle.pos_reader.specs.ReadingCauses.{IsListed}
 use Rattle.pos_reader.specs.Steps.{IsPark, listed}
 use Rattle.pos_reader.proofs.HeaderLemmas.{both_left, both_right, end_of-at, eq_true, eq_means, le_means, le_true}
 
 -- the tests of an entry, each by what it means
-pub record IsListed (h : Header) (t park : ℕ) (e : ParkEntry) : Type 0 where
-  pub some : 1 ≤ e.park_length
-  pub short : e.park_length ≤ longest_park own h.size
-  pub after : end_of own h (t - 1) ≤ e.offset
-  pub inside : e.offset + e.park_length ≤ directory_of h t
-  pub count : e.count ≡ park_count own (count_of h t) park
-  pub head : t ≢ 7 → e.head ≡ 0
-
-pub listed_means : (h : Header) (t park : ℕ) (e : ParkEntry) → is_listed own h t park e ≡ true → IsListed h t park e
+pub listed_means : (h : Header) (t park : ℕ) (e : ParkEntry) → is_listed own h t park e ≡ true → IsListed own h t park e
 unfolding is_listed
 listed_means h t park e all = record {
   some = le_means _ _ (both_left _ _ (both_left _ _ (both_left _ _ (both_left _ _ all))));

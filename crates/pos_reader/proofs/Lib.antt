@@ -3,5 +3,6 @@ pub mod EntryLemmas
 pub mod HeaderLemmas
 pub mod OpeningLemmas
 pub mod ParkLemmas
+pub mod ParkParts
 pub mod ReadLemmas
-pub mod StoredLemmas
+pub mod ReadingLemmas

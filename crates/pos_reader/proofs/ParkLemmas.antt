@@ -5,14 +5,15 @@ use Rattle.std.proofs.lemmas.Bool.{false≢true, cases_lt}
 use Rattle.std.proofs.lemmas.Bool.Decides.{nat_tests}
 use Rattle.std.proofs.lemmas.Slice.Eq.{bytes_eq-Decides}
 use Rattle.sha2.specs.Sha256.{sha256}
-use Rattle.pos_points.specs.Points.{greater}
+use Rattle.pos_lists.specs.Pairs.{greater}
 use Rattle.pos_layout.proofs.LawsPoints.{inside_by_count}
 use Rattle.pos_rice.specs.Reading.{numbers_in}
 use Rattle.pos_layout.specs.declared.header.Header.{Header}
 use Rattle.pos_layout.specs.declared.entry.ParkEntry.{ParkEntry}
 use Rattle.pos_layout.specs.declared.damage.Damage.TheVariants.{Directory, Digest, Form as WrongForm}
 use Rattle.pos_layout.specs.Forms.{own}
-use Rattle.pos_layout.specs.Lists.{f7_in, points_inside}
+use Rattle.pos_layout.specs.Lists.{points_inside}
+use Rattle.pos_lists.specs.PlotLists.{f7_in}
 use Rattle.pos_reader.proofs.HeaderLemmas.{eq_true, eq_false}
 use Rattle.pos_layout.specs.Reading.{is_headed, numbers_by}
 

@@ -1,10 +1,14 @@
 -- Reads one after another, and what they leave of an open plot.
-use Rattle.std.proofs.Common.{◌≡◌, ℕ, ◌+◌, ◌≤◌, List, IsSome, sym, ◌∙◌, subst, arith}
+use Rattle.std.proofs.Common.{◌≡◌, ℕ, ◌+◌, ◌≤◌, List, IsSome, Result, Ok, Err, IsErrOf, sym, ap, ◌∙◌, subst, arith}
+use Rattle.pos_edge.specs.Faults.{Rose}
 use Rattle.pos_edge.specs.View.{View}
-use Rattle.pos_edge.specs.Frame.{ChangesOnly, Nothing, NameOf}
+use Rattle.pos_edge.specs.Frame.{ChangesOnly, Nothing, NameOf, SameFaults, SameFaultsBut}
 use Rattle.pos_edge.proofs.Frames.{frame_then}
-use Rattle.pos_layout.specs.Forms.{Form}
+use Rattle.pos_layout.specs.Forms.{Form, own}
+use Rattle.pos_reader.specs.declared.refusal.ReadRefusal.{ReadRefusal}
+use Rattle.pos_reader.specs.declared.refusal.ReadRefusal.TheVariants.{DiskFailed}
 use Rattle.pos_reader.specs.Plots.{PlotState, IsOpen, IsPlotFile, OnlyReads}
+use Rattle.pos_reader.specs.Readings.{CountsFaults, LeavesPlot, IsReading}
 
 -- two calls that only read are one
 pub reads_then : (m n : ℕ) (a b c : View) → OnlyReads m a b → OnlyReads n b c → OnlyReads (m + n) a c
@@ -48,9 +52,48 @@ open_after n p a b reads is = IsOpen-kept Nothing Nothing p a b reads.kept (λ x
 pub file_after : (l : Form) (n : ℕ) (p : PlotState) (bytes : List ℕ) (a b : View) → OnlyReads n a b → IsOpen p a → IsPlotFile l p bytes a → IsPlotFile l p bytes b
 file_after l n p bytes a b reads is holds = IsPlotFile-kept l Nothing Nothing p bytes a b reads.kept (λ x. x) (λ name named x. x) is holds
 
--- the same of the value after a call, where that is as it was
-pub stays_open : (n : ℕ) (p q : PlotState) (a b : View) → q ≡ p → OnlyReads n a b → IsOpen p a → IsOpen q b
-stays_open n p q a b same reads is = rw same (open_after n p a b reads is)
+-- ---- counts of faults, over a call and what comes before it
 
-pub stays_file : (l : Form) (n : ℕ) (p q : PlotState) (bytes : List ℕ) (a b : View) → q ≡ p → OnlyReads n a b → IsOpen p a → IsPlotFile l p bytes a → IsPlotFile l q bytes b
-stays_file l n p q bytes a b same reads is holds = rw same (file_after l n p bytes a b reads is holds)
+pub faults_after : {X E : Type 0} (fault : E) (result : Result X E) (a b c : View) → SameFaults a b → CountsFaults fault result b c
+    → CountsFaults fault result a c
+faults_after fault result a b c same h = record {
+  failed = λ e. subst (λ n. Rose n c.faults) same (h.failed e);
+  quiet = quiet_after fault result a b c same h.quiet;
+}
+  where
+    quiet_after : {X E : Type 0} (fault : E) (result : Result X E) (a b c : View) → SameFaults a b → SameFaultsBut fault result b c
+        → SameFaultsBut fault result a c
+    quiet_after fault (Ok x) a b c same h = h ∙ same
+    quiet_after fault (Err e) a b c same h = λ other. h other ∙ same
+
+-- a refusal that is handed on
+pub faults_refused : {X Y E : Type 0} (fault refusal : E) (result : Result Y E) (a b : View) → result ≡ Err refusal
+    → CountsFaults {X = X} fault (Err refusal) a b → CountsFaults fault result a b
+faults_refused fault refusal (Ok y) a b is h = cc
+faults_refused fault refusal (Err e) a b is h = record {
+  failed = λ f. h.failed (ap (λ e. Err e) (let same : e ≡ refusal = cc in let this : e ≡ fault = cc in sym same ∙ this));
+  quiet = λ other. h.quiet (λ f. other ((let same : e ≡ refusal = cc in same) ∙ f));
+}
+
+-- nothing failed
+pub faults_none : {X E : Type 0} (fault : E) (result : Result X E) (a b : View) → SameFaults a b → (IsErrOf result fault → ⊥)
+    → CountsFaults fault result a b
+faults_none fault result a b same never = record { failed = λ e. absurd (never e); quiet = by fault result a b same }
+  where
+    by : {X E : Type 0} (fault : E) (result : Result X E) (a b : View) → SameFaults a b → SameFaultsBut fault result a b
+    by fault (Ok x) a b same = same
+    by fault (Err e) a b same = λ other. same
+
+-- ---- what a call on an open plot leaves
+
+pub leaves_plot : (n : ℕ) (p q : PlotState) (a b : View) → q ≡ p → OnlyReads n a b → IsOpen p a → LeavesPlot n p q a b
+leaves_plot n p q a b same reads is = record {
+  same = same;
+  reads = reads;
+  stays_open = rw same (open_after n p a b reads is);
+  stays_file = λ bytes holds. rw same (file_after own n p bytes a b reads is holds);
+}
+
+pub is_reading : {X : Type 0} (n : ℕ) (result : Result X ReadRefusal) (p q : PlotState) (a b : View) → q ≡ p → OnlyReads n a b
+    → IsOpen p a → CountsFaults DiskFailed result a b → IsReading n result p q a b
+is_reading n result p q a b same reads is faults = record { left = leaves_plot n p q a b same reads is; faults = faults }

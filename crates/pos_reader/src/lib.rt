@@ -4,13 +4,11 @@
 
 mod entry;
 mod header;
-mod laws;
 mod park;
 mod plot;
 mod reads;
 mod refusal;
 
-pub use laws::reading_shows_the_lists;
 pub use plot::Plot;
 pub use pos_layout::{Damage, HeaderField};
 pub use refusal::{OpenRefusal, ReadRefusal};

@@ -3,7 +3,7 @@ ghost use Rattle.std.specs.Prelude.{◌≡◌, ◌-◌, ◌+◌, ◌*◌, ◌^�
 ghost use Rattle.pos_layout.specs.Fields.{count_of};
 ghost use Rattle.pos_layout.specs.Forms.{own};
 ghost use Rattle.pos_layout.specs.Lists.{points_inside};
-ghost use Rattle.pos_points.specs.Points.{greater};
+ghost use Rattle.pos_lists.specs.Pairs.{greater};
 ghost use Rattle.pos_layout.specs.Reading.{is_listed, numbers_by};
 ghost use Rattle.pos_layout.specs.Rules.{IsLaidOut};
 ghost use Rattle.pos_reader.specs.Steps.{IsPark};

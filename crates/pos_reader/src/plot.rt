@@ -1,7 +1,6 @@
 //! An open plot file.
 ghost use Rattle.std.specs.Prelude.{◌≡◌, ◌-◌, ◌+◌, ◌*◌, ◌^◌, ◌<◌, ◌≤◌, ℕ, List, false, length, true, IfErr, IfOk, IsErrOf, Some};
 ghost use Rattle.pos_edge.specs.Calls.{WasAbsent};
-ghost use Rattle.pos_edge.specs.Faults.{Rose};
 ghost use Rattle.pos_edge.specs.Frame.{ChangesOnly, IsUntouched, Nothing};
 ghost use Rattle.pos_layout.specs.Damages.{opening};
 ghost use Rattle.pos_layout.specs.Fields.{count_of};
@@ -11,7 +10,8 @@ ghost use Rattle.pos_layout.specs.Reading.{head, num, under};
 ghost use Rattle.pos_layout.specs.Rules.{IsLaidOut};
 ghost use Rattle.pos_layout.specs.declared.damage.Damage.{Damage};
 ghost use Rattle.pos_reader.specs.Answers.{Answers};
-ghost use Rattle.pos_reader.specs.Plots.{IsOpen, IsPlotFile, OnlyReads, plot_of};
+ghost use Rattle.pos_reader.specs.Plots.{IsOpen, IsPlotFile, plot_of};
+ghost use Rattle.pos_reader.specs.Readings.{CountsFaults, IsPlotOpened, IsReading};
 
 use crate::park::{count_below, least_with, points_inside};
 use crate::reads::{read_entry, read_header, read_park};
@@ -25,9 +25,9 @@ use std::marker::Model;
 
 /// A plot file that was opened, with the buffers that its calls need. Contracts see the file and the header.
 ///
-/// Each call on the disk wants the plot's file live there, with all its bytes: `open` leaves it so, and no call of a disk
-/// but a removal of this file ends it. What a call answers is said over a disk that tells, of the bytes that the file holds
-/// when the call begins, where they open and have the plot's header: `open` leaves this so, too.
+/// Each call on the disk wants the plot's file live there, with all its bytes: `open` leaves it so, each call here too, and
+/// no call of a disk but a removal of this file ends it. What a call answers is said over a disk that tells, of the bytes
+/// that the file holds when the call begins, where they open and have the plot's header: `open` leaves this so, too.
 #[derive(Drop)]
 pub struct Plot {
     file: FileId,
@@ -54,25 +54,17 @@ impl Plot {
     /// Opens the file of this name, by at most two reads. It takes all memory that the calls of the plot need.
     ///
     /// Over a disk that tells it is Ok exactly where the file opens, and `Absent` exactly where there is none, but for a
-    /// failure of the disk and want of memory; else it answers the first damage that opening finds. No file changes.
+    /// failure of the disk and want of memory; else it answers the first damage that opening finds. `DiskFailed` comes
+    /// exactly where the disk failed. No file changes.
     pub fn open<D: Disk>(alloc: Global, disk: &mut D, name: &str) -> Result<Plot, OpenRefusal>
         ensures kept { ChangesOnly Nothing Nothing (D.view disk.old) (D.view disk.new) }
         ensures reads { (D.view disk.new).reads ≤ (D.view disk.old).reads + 2 }
-
-        // over every disk
-        ensures fresh { IfOk result (λ p. (D.view disk.old).is_live p.file ≡ false) }
-        ensures is_open { IfOk result (λ p. IsOpen p (D.view disk.new)) }
-        ensures laid_out { IfOk result (λ p. IsLaidOut own p.header) }
-
-        // over a disk that tells
-        ensures ok { IfOk result (λ p. (D.view disk.old).tells ≡ true
-            → (b : List ℕ) × ((D.view disk.old).contents name.now ≡ Some b) × IsPlotFile own p b (D.view disk.new)) }
+        ensures ok { IfOk result (λ p. IsPlotOpened name.now p (D.view disk.old) (D.view disk.new)) }
         ensures damage { (d : Damage) → IsErrOf result (OpenRefusal.Damage d) → (D.view disk.old).tells ≡ true
             → (b : List ℕ) × ((D.view disk.old).contents name.now ≡ Some b) × (opening own b (length b) ≡ Some d) }
         ensures absent { IsErrOf result OpenRefusal.Absent
             → WasAbsent name.now (D.view disk.old) × IsUntouched (D.view disk.old) (D.view disk.new) }
-        ensures failed { IsErrOf result OpenRefusal.DiskFailed
-            → Rose (D.view disk.old).faults (D.view disk.new).faults }
+        ensures faults { CountsFaults OpenRefusal.DiskFailed result (D.view disk.old) (D.view disk.new) }
     {
         let file = match disk.open(name) {
             Ok(file) => file,
@@ -123,19 +115,13 @@ impl Plot {
 
     /// Number i of table t, counted from 0, or the first damage on the way to it: of the directory's entry, of the park's
     /// digest, of the park, of its head, and then of the number's pointers. At most two reads, and no memory.
-    #[tactic(auto, using(crate::proofs::ReadLemmas::stays_open, crate::proofs::ReadLemmas::stays_file))]
     pub fn number<D: Disk>(&mut self, disk: &mut D, t: u8, i: u64) -> Result<u128, ReadRefusal>
         requires is_open { IsOpen self.old (D.view disk.old) }
         requires first { 1 ≤ t }
         requires last { t ≤ 7 }
         requires place { i < count_of self.old.header t }
-        ensures same { self.new ≡ self.old }
-        ensures reads { OnlyReads 2 (D.view disk.old) (D.view disk.new) }
-        ensures stays_open { IsOpen self.new (D.view disk.new) }
-        ensures stays_file { (b : List ℕ) → IsPlotFile own self.old b (D.view disk.old) → IsPlotFile own self.new b (D.view disk.new) }
+        ensures reading { IsReading 2 result self.old self.new (D.view disk.old) (D.view disk.new) }
         ensures number { (b : List ℕ) → IsPlotFile own self.old b (D.view disk.old) → Answers result (num own b t i) }
-        ensures failed { IsErrOf result ReadRefusal.DiskFailed
-            → Rose (D.view disk.old).faults (D.view disk.new).faults }
 
         // over every disk
         ensures below { IfOk result (λ n. n < 2 ^ (2 * self.old.header.size + 2)) }
@@ -162,17 +148,11 @@ impl Plot {
 
     /// The head of a park of table 7, which is the f7 of its first number, as its directory says, or the damage of the
     /// directory's entry. At most one read, and no memory.
-    #[tactic(auto, using(crate::proofs::ReadLemmas::stays_open, crate::proofs::ReadLemmas::stays_file))]
     pub fn head<D: Disk>(&mut self, disk: &mut D, park: u64) -> Result<u64, ReadRefusal>
         requires is_open { IsOpen self.old (D.view disk.old) }
         requires park { park < parks_of own (count_of self.old.header 7) }
-        ensures same { self.new ≡ self.old }
-        ensures reads { OnlyReads 1 (D.view disk.old) (D.view disk.new) }
-        ensures stays_open { IsOpen self.new (D.view disk.new) }
-        ensures stays_file { (b : List ℕ) → IsPlotFile own self.old b (D.view disk.old) → IsPlotFile own self.new b (D.view disk.new) }
+        ensures reading { IsReading 1 result self.old self.new (D.view disk.old) (D.view disk.new) }
         ensures head { (b : List ℕ) → IsPlotFile own self.old b (D.view disk.old) → Answers result (head own b park) }
-        ensures failed { IsErrOf result ReadRefusal.DiskFailed
-            → Rose (D.view disk.old).faults (D.view disk.new).faults }
     {
         let entry = read_entry(disk, self.file, &self.header, 7, park)?;
         Ok(entry.head)
@@ -180,18 +160,12 @@ impl Plot {
 
     /// How many numbers of a park of table 7 have an f7 below this one, or the first damage of its entry, digest, form and
     /// head. At most two reads, and no memory.
-    #[tactic(auto, using(crate::proofs::ReadLemmas::stays_open, crate::proofs::ReadLemmas::stays_file))]
     pub fn under<D: Disk>(&mut self, disk: &mut D, park: u64, f7: u64) -> Result<u32, ReadRefusal>
         requires is_open { IsOpen self.old (D.view disk.old) }
         requires park { park < parks_of own (count_of self.old.header 7) }
         requires f7 { f7 ≤ 2 ^ self.old.header.size }
-        ensures same { self.new ≡ self.old }
-        ensures reads { OnlyReads 2 (D.view disk.old) (D.view disk.new) }
-        ensures stays_open { IsOpen self.new (D.view disk.new) }
-        ensures stays_file { (b : List ℕ) → IsPlotFile own self.old b (D.view disk.old) → IsPlotFile own self.new b (D.view disk.new) }
+        ensures reading { IsReading 2 result self.old self.new (D.view disk.old) (D.view disk.new) }
         ensures under { (b : List ℕ) → IsPlotFile own self.old b (D.view disk.old) → Answers result (under own b park f7) }
-        ensures failed { IsErrOf result ReadRefusal.DiskFailed
-            → Rose (D.view disk.old).faults (D.view disk.new).faults }
 
         // over every disk
         ensures at_most { IfOk result (λ n. n ≤ park_count own (count_of self.old.header 7) park) }

@@ -1,7 +1,6 @@
 //! What is read of a plot's file: its header, an entry of a directory, a park.
 ghost use Rattle.std.specs.Prelude.{◌≡◌, ◌+◌, ◌++◌, ◌≤◌, ℕ, List, drop, length, take, true, Err, IfErr, IfOk, IsErrOf, IsTrue, Ok, OnErr, OnOk, Some};
 ghost use Rattle.pos_edge.specs.Calls.{IsThere};
-ghost use Rattle.pos_edge.specs.Faults.{Rose};
 ghost use Rattle.pos_edge.specs.Frame.{NameOf};
 ghost use Rattle.pos_layout.specs.Bytes.{part};
 ghost use Rattle.pos_layout.specs.Damages.{opening};
@@ -11,6 +10,7 @@ ghost use Rattle.pos_layout.specs.Reading.{is_listed, read_entry, read_park};
 ghost use Rattle.pos_layout.specs.Rules.{IsLaidOut, Opens};
 ghost use Rattle.pos_reader.specs.Answers.{Answers};
 ghost use Rattle.pos_reader.specs.Plots.{IsOpen, IsPlotFile, OnlyReads, plot_of};
+ghost use Rattle.pos_reader.specs.Readings.{CountsFaults};
 ghost use Rattle.pos_reader.specs.Steps.{IsPark};
 ghost use Rattle.pos_rice.specs.Park.{AreNumbers};
 ghost use Rattle.pos_rice.specs.declared.TheConstants.{MOST_NUMBERS};
@@ -32,7 +32,7 @@ fn read<D: Disk>(disk: &mut D, file: FileId, at: u64, buf: &mut [u8]) -> Result<
     ensures reads { OnlyReads 1 (D.view disk.old) (D.view disk.new) }
     ensures ok { OnOk result ((name b : List ℕ) → NameOf file.0 (D.view disk.old) name
         → (D.view disk.old).contents name ≡ Some b → buf.new ≡ part b at (length buf.old)) }
-    ensures failed { OnErr result (Rose (D.view disk.old).faults (D.view disk.new).faults) }
+    ensures faults { CountsFaults ReadRefusal.DiskFailed result (D.view disk.old) (D.view disk.new) }
     ensures refusal { IfErr result (λ refusal. refusal ≡ ReadRefusal.DiskFailed) }
 {
     match disk.read_at(file, at, buf) {
@@ -56,7 +56,7 @@ fn read_front<D: Disk>(
     ensures ok { OnOk result ((name b : List ℕ) → NameOf file.0 (D.view disk.old) name
         → (D.view disk.old).contents name ≡ Some b → file_length ≡ length b
         → buf.new ≡ take (length buf.old) b ++ drop (length b) buf.old) }
-    ensures failed { OnErr result (Rose (D.view disk.old).faults (D.view disk.new).faults) }
+    ensures faults { CountsFaults ReadRefusal.DiskFailed result (D.view disk.old) (D.view disk.new) }
     ensures refusal { IfErr result (λ refusal. refusal ≡ ReadRefusal.DiskFailed) }
 {
     let front = file_length.min(buf.len() as u64) as usize;
@@ -79,7 +79,7 @@ pub(crate) fn read_header<D: Disk>(disk: &mut D, file: FileId) -> Result<Header,
     ensures damage { (d : Damage) → IsErrOf result (ReadRefusal.Damage d)
         → (name b : List ℕ) → NameOf file.0 (D.view disk.old) name → (D.view disk.old).contents name ≡ Some b
         → (D.view disk.old).size_of file.0 ≡ length b → opening own b (length b) ≡ Some d }
-    ensures failed { IsErrOf result ReadRefusal.DiskFailed → Rose (D.view disk.old).faults (D.view disk.new).faults }
+    ensures faults { CountsFaults ReadRefusal.DiskFailed result (D.view disk.old) (D.view disk.new) }
 {
     let file_length = disk.size(file);
     let mut bytes = [0; HEADER_BYTES];
@@ -105,7 +105,7 @@ pub(crate) fn read_entry<D: Disk>(
     ensures listed { IfOk result (λ e. is_listed own header.now t park e ≡ true) }
     ensures entry { (b : List ℕ) → IsPlotFile own (plot_of file.0 header.now) b (D.view disk.old)
         → Answers result (read_entry own b t park) }
-    ensures failed { IsErrOf result ReadRefusal.DiskFailed → Rose (D.view disk.old).faults (D.view disk.new).faults }
+    ensures faults { CountsFaults ReadRefusal.DiskFailed result (D.view disk.old) (D.view disk.new) }
 {
     let mut bytes = [0; ENTRY_BYTES];
     let directory = header.columns[t as usize - 1].directory;
@@ -148,7 +148,7 @@ pub(crate) fn read_park<D: Disk>(
         → read_park own b t park ≡ Ok (take n numbers.new)) }
     ensures damage { (d : Damage) → IsErrOf result (ReadRefusal.Damage d)
         → (b : List ℕ) → IsPlotFile own (plot_of file.0 header.now) b (D.view disk.old) → read_park own b t park ≡ Err d }
-    ensures failed { IsErrOf result ReadRefusal.DiskFailed → Rose (D.view disk.old).faults (D.view disk.new).faults }
+    ensures faults { CountsFaults ReadRefusal.DiskFailed result (D.view disk.old) (D.view disk.new) }
 {
     let entry = read_entry(disk, file, header, t, park)?;
     let bytes = &mut bytes[..entry.park_length as usize];

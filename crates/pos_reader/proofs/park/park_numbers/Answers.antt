@@ -2,7 +2,7 @@
 use Rattle.std.proofs.Common.{◌≡◌, ◌+◌, ◌/◌, ◌^◌, true, take, slice_index, ℕ, ap₂, sym, ◌∙◌, arith, ◌<◌}
 use Rattle.std.proofs.lemmas.List.{get_or-take}
 use Rattle.std.specs.Str.{bytes_eq}
-use Rattle.pos_layout.specs.Lists.{f7_in}
+use Rattle.pos_lists.specs.PlotLists.{f7_in}
 use Rattle.pos_reader.proofs.EntryLemmas.{listed_means, park_some, park_few}
 use Rattle.pos_reader.proofs.ParkLemmas.{is_digest, numbers-digest, numbers-form, numbers-head, numbers-all, not_means, not_not, headed_elsewhere, headed_right, headed_wrong}
 use Rattle.pos_layout.specs.Fields.{count_of}

@@ -1,6 +1,6 @@
 -- Where a number points, table by table.
 use Rattle.std.proofs.Common.{◌≡◌, ◌-◌, ◌*◌, ◌/◌, ◌%◌, nat_lt, ap, sym, ◌∙◌}
-use Rattle.pos_points.specs.Points.{greater}
+use Rattle.pos_lists.specs.Pairs.{greater}
 use Rattle.pos_layout.specs.Fields.{count_of}
 use Rattle.pos_reader.proofs.ParkLemmas.{pointed_first, pointed_middle, pointed_last, and_first, and_fails, lt_true, lt_false}
 use Rattle.pos_reader.proofs.park.points_inside.Goals as goal

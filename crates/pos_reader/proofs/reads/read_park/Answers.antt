@@ -9,13 +9,14 @@ use Rattle.pos_layout.specs.Reading.{read_park, numbers_by}
 use Rattle.pos_reader.specs.declared.refusal.ReadRefusal.TheVariants.{Damage as Found}
 use Rattle.pos_reader.proofs.AnswerLemmas.{damage_of}
 use Rattle.pos_reader.specs.Plots.{IsPlotFile, plot_of}
-use Rattle.pos_reader.proofs.EntryLemmas.{IsListed, listed_means, longest_small, park_found, park_refused}
+use Rattle.pos_reader.specs.ReadingCauses.{IsListed}
+use Rattle.pos_reader.proofs.EntryLemmas.{listed_means, longest_small, park_found, park_refused}
 use Rattle.pos_reader.proofs.ReadLemmas.{reads_then, open_after, file_after}
 use Rattle.pos_reader.proofs.reads.read_park.Goals as goal
 use Rattle.pos_reader.proofs.reads.read_park.Given.{Over}
 use Rattle.pos_reader.proofs.reads.read_park.Goals.{In_ok-entry, In_ok-read}
 
-is : (g : Over) (c : In_ok-entry g) → IsListed c.args.header.now c.args.t c.args.park c.in_ok-entry.entry
+is : (g : Over) (c : In_ok-entry g) → IsListed own c.args.header.now c.args.t c.args.park c.in_ok-entry.entry
 is g c = listed_means c.args.header.now c.args.t c.args.park c.in_ok-entry.entry c.in_ok-entry.ensures.listed
 
 fits : (g : Over) (c : In_ok-entry g) → c.in_ok-entry.entry.park_length ≤ length c.args.bytes.now

@@ -1,0 +1,58 @@
+-- Calls on an open plot, one after another.
+use Rattle.std.proofs.Common.{◌≡◌, ℕ, ◌+◌, ◌≤◌, List, Result, Ok, Err, ◌∙◌, ap, subst, arith}
+use Rattle.pos_edge.specs.View.{View}
+use Rattle.pos_edge.specs.Frame.{SameFaults}
+use Rattle.pos_layout.specs.declared.damage.Damage.{Damage}
+use Rattle.pos_reader.specs.declared.refusal.ReadRefusal.{ReadRefusal}
+use Rattle.pos_reader.specs.declared.refusal.ReadRefusal.TheVariants.{DiskFailed, Damage as Found}
+use Rattle.pos_reader.specs.Plots.{PlotState, IsPlotFile}
+use Rattle.pos_reader.specs.Readings.{CountsFaults, LeavesPlot, IsReading}
+use Rattle.pos_reader.proofs.ReadLemmas.{reads_then, reads_fewer, faults_after, faults_refused, faults_none}
+
+-- two calls leave a plot as one call of both counts does
+pub leaves_after : (m n most : ℕ) (p q r : PlotState) (a b c : View) → m + n ≤ most → LeavesPlot m p q a b → LeavesPlot n q r b c → LeavesPlot most p r a c
+leaves_after m n most p q r a b c few h k = record {
+  same = k.same ∙ h.same;
+  reads = reads_fewer (m + n) most a c few (reads_then m n a b c h.reads k.reads);
+  stays_open = k.stays_open;
+  stays_file = λ bytes holds. k.stays_file bytes (h.stays_file bytes holds);
+}
+
+pub leaves_more : (m most : ℕ) (p q : PlotState) (a b : View) → m ≤ most → LeavesPlot m p q a b → LeavesPlot most p q a b
+leaves_more m most p q a b few h = record {
+  same = h.same;
+  reads = reads_fewer m most a b few h.reads;
+  stays_open = h.stays_open;
+  stays_file = h.stays_file;
+}
+
+-- after a call that went well
+pub reading_after : {X Y : Type 0} (m n most : ℕ) (x : X) (result : Result Y ReadRefusal) (p q r : PlotState) (a b c : View) → m + n ≤ most
+    → IsReading m (Ok x) p q a b → IsReading n result q r b c → IsReading most result p r a c
+reading_after m n most x result p q r a b c few h k = record {
+  left = leaves_after m n most p q r a b c few h.left k.left;
+  faults = faults_after DiskFailed result a b c h.faults.quiet k.faults;
+}
+
+-- a refusal that is handed on
+pub reading_refused : {X Y : Type 0} (m most : ℕ) (refusal : ReadRefusal) (result : Result Y ReadRefusal) (p q : PlotState) (a b : View) → m ≤ most
+    → result ≡ Err refusal → IsReading {X = X} m (Err refusal) p q a b → IsReading most result p q a b
+reading_refused m most refusal result p q a b few is h = record {
+  left = leaves_more m most p q a b few h.left;
+  faults = faults_refused DiskFailed refusal result a b is h.faults;
+}
+
+-- another answer that is no failure of the disk, after a call that went well
+pub reading_done : {X Y : Type 0} (m most : ℕ) (x : X) (y : Y) (p q : PlotState) (a b : View) → m ≤ most
+    → IsReading m (Ok x) p q a b → IsReading most (Ok y) p q a b
+reading_done m most x y p q a b few h = record {
+  left = leaves_more m most p q a b few h.left;
+  faults = faults_none DiskFailed (Ok y) a b h.faults.quiet (λ e. cc);
+}
+
+pub reading_damaged : {X Y : Type 0} (m most : ℕ) (x : X) (d : Damage) (p q : PlotState) (a b : View) → m ≤ most
+    → IsReading m (Ok x) p q a b → IsReading {X = Y} most (Err (Found d)) p q a b
+reading_damaged m most x d p q a b few h = record {
+  left = leaves_more m most p q a b few h.left;
+  faults = faults_none DiskFailed (Err (Found d)) a b h.faults.quiet (λ e. cc);
+}
