@@ -1,0 +1,4 @@
+pub mod CallLemmas
+pub mod PlaceLemmas
+pub mod SpanLemmas
+pub mod TupleLemmas

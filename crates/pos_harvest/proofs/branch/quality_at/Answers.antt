@@ -1,0 +1,68 @@
+-- The number of table 7, the branch from its place, and the hash of its end.
+use Rattle.std.proofs.Common.{◌≡◌, ◌∙◌, ◌≤◌, ◌<◌, ◌^◌, List, ℕ, Ok, Err, refl, sym, ap, subst, arith}
+use Rattle.std.proofs.lemmas.Result.{err_from_is_err_and}
+use Rattle.pos_lists.specs.PlotLists.{place_in}
+use Rattle.pos_layout.specs.Forms.{own}
+use Rattle.pos_layout.specs.Reading.{num}
+use Rattle.pos_layout.specs.Fields.{count_of, header_in}
+use Rattle.pos_layout.specs.Rules.{IsLaidOut}
+use Rattle.pos_reader.specs.declared.refusal.ReadRefusal.TheVariants.{Damage as Found}
+use Rattle.pos_reader.proofs.AnswerLemmas.{answers_refused, damage_of}
+use Rattle.pos_reader.proofs.ReadingLemmas.{reading_after, reading_refused, reading_done}
+use Rattle.pos_harvest.specs.Places.{quality_in}
+use Rattle.pos_harvest.proofs.PlaceLemmas.{place_inside}
+use Rattle.pos_harvest.proofs.TupleLemmas.{quality_refused, quality_found, quality_stops}
+use Rattle.pos_harvest.proofs.branch.quality_at.Goals as goal
+
+pub returns-in_err-number-clause-reading : goal.returns-in_err-number-clause-reading
+returns-in_err-number-clause-reading g c =
+    let p = err_from_is_err_and c.from_residual.result c.from_residual.ensures.1 in
+    reading_refused 2 14 c.in_err-number.field-0.0 c.from_residual.result _ _ _ _ (omega arith) (p.1 ∙ ap (λ e. Err e) p.2) c.in_err-number.ensures.reading
+
+pub returns-in_err-number-clause-quality : goal.returns-in_err-number-clause-quality
+returns-in_err-number-clause-quality g c = λ b holds.
+    let p = err_from_is_err_and c.from_residual.result c.from_residual.ensures.1 in
+    answers_refused c.from_residual.result c.in_err-number.field-0.0 (quality_in own b c.args.challenge.now.0 c.args.place) (p.1 ∙ ap (λ e. Err e) p.2)
+    (λ d same. quality_refused b c.args.challenge.now.0 c.args.place d (damage_of c.in_err-number.field-0.0 d _ same (c.in_err-number.ensures.number b holds)))
+
+pub follow-requires : goal.follow-requires
+follow-requires g c =
+    let same = c.in_ok-number.ensures.reading.left.same in
+    let size = c.size-size.ensures.size in
+    let inside : c.place_in-from.result < count_of c.number.new.self.header 6 =
+    subst (λ p. c.place_in-from.result < count_of p.header 6) (sym same)
+    (subst (λ n. n < count_of c.args.plot.now.header 6) (sym (c.place_in-from.ensures ∙ ap (λ k. place_in k c.in_ok-number.number) size))
+    (place_inside c.args.plot.now.header c.in_ok-number.number c.in_ok-number.ensures.in_range)) in
+    record {
+      is_open = c.in_ok-number.ensures.reading.left.stays_open;
+      laid_out = subst (λ p. IsLaidOut own p.header) (sym same) c.size-size.ensures.laid_out;
+      first = omega arith;
+      last = omega arith;
+      place = inside;
+    }
+
+pub returns-in_err-lesser-clause-reading : goal.returns-in_err-lesser-clause-reading
+returns-in_err-lesser-clause-reading g c =
+    let p = err_from_is_err_and c.from_residual-in_err-lesser.result c.from_residual-in_err-lesser.ensures.1 in
+    reading_after 2 12 14 c.in_ok-number.number c.from_residual-in_err-lesser.result _ _ _ _ _ _ (omega arith) c.in_ok-number.ensures.reading
+    (reading_refused 12 12 c.in_err-lesser.field-0.0 c.from_residual-in_err-lesser.result _ _ _ _ (omega arith) (p.1 ∙ ap (λ e. Err e) p.2) c.in_err-lesser.ensures.reading)
+
+pub returns-in_err-lesser-clause-quality : goal.returns-in_err-lesser-clause-quality
+returns-in_err-lesser-clause-quality g c = λ b holds.
+    let p = err_from_is_err_and c.from_residual-in_err-lesser.result c.from_residual-in_err-lesser.ensures.1 in
+    answers_refused c.from_residual-in_err-lesser.result c.in_err-lesser.field-0.0 (quality_in own b c.args.challenge.now.0 c.args.place) (p.1 ∙ ap (λ e. Err e) p.2)
+    (λ d same. quality_stops b c.args.challenge.now.0 c.size-size.result c.args.place c.in_ok-number.number c.place_in-from.result d (c.size-size.ensures.size ∙ ap (λ h. h.size) holds.header)
+    (c.in_ok-number.ensures.number b holds) c.place_in-from.ensures
+    (damage_of c.in_err-lesser.field-0.0 d _ same (c.in_err-lesser.ensures.answer b (c.in_ok-number.ensures.reading.left.stays_file b holds))))
+
+pub returns-clause-reading : goal.returns-clause-reading
+returns-clause-reading g c =
+    reading_done 14 14 (c.in_ok-lesser.lesser, c.in_ok-lesser.greater) c.pair_quality.result _ _ _ _ (omega arith)
+    (reading_after 2 12 14 c.in_ok-number.number (Ok (c.in_ok-lesser.lesser, c.in_ok-lesser.greater)) _ _ _ _ _ _ (omega arith) c.in_ok-number.ensures.reading c.in_ok-lesser.ensures.reading)
+
+pub returns-clause-quality : goal.returns-clause-quality
+returns-clause-quality g c = λ b holds.
+    quality_found b c.args.challenge.now.0 c.size-size.result c.args.place c.in_ok-number.number c.place_in-from.result c.in_ok-lesser.lesser c.in_ok-lesser.greater
+    (c.size-size.ensures.size ∙ ap (λ h. h.size) holds.header) (c.in_ok-number.ensures.number b holds) c.place_in-from.ensures
+    (c.in_ok-lesser.ensures.answer b (c.in_ok-number.ensures.reading.left.stays_file b holds))
+    ∙ ap (λ q. Ok q) (sym c.pair_quality.ensures.value)

@@ -1,0 +1,4 @@
+pub mod Places
+pub mod Listings
+pub mod PlotDamage
+pub mod Searches

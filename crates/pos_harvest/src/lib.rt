@@ -1,0 +1,19 @@
+//! From an open plot file and a challenge to every proof and every quality: the places of table 7 that answer the challenge
+//! are a span, a place unfolds to 64 values, which in one order of halves are a proof, and one branch of it gives the
+//! quality.
+//!
+//! Over a file whose bytes are anything no answer is a false proof, the first damage on the way is named, and each call
+//! makes a bounded number of reads. Sources of the rules: the Proof of Space Construction document, version 1.1, and
+//! chiapos; the order of reading is this project's own.
+#![tactic(auto)]
+
+mod branch;
+mod span;
+mod tuple;
+
+pub use branch::quality_at;
+pub use span::find;
+pub use tuple::proof_at;
+
+#[cfg(test)]
+mod tests;
