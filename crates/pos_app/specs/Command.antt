@@ -1,7 +1,9 @@
 -- Which words are a command.
-use Rattle.std.specs.Prelude.{ℕ, ◌==◌, ◌||◌, Bool, false, if◌then◌else◌, List, [], ◌∷◌, codes, Option, Some, None}
+use Rattle.std.specs.Prelude.{ℕ, ◌≡◌, ◌==◌, Bool, true, false, if◌then◌else◌, List, [], ◌∷◌, codes, map, String, string_bytes, Option, Some, None, IfSome}
+use Rattle.std.specs.Bool.{IsFalse}
 use Rattle.std.specs.Option.{option_map}
 use Rattle.std.specs.Cmp.Lexicographic.{pointwise}
+use Rattle.std.specs.declared.alloc.Global.{Global}
 use Rattle.pos_app.specs.Words.{size_word, bytes_word, hash_word, file_word}
 
 -- a command with what its words write
@@ -31,11 +33,6 @@ abbrev pub inspect_command : List (List ℕ) → Option Command
 inspect_command (file ∷ []) = option_map Inspect (file_word file)
 inspect_command words = None
 
--- the first word names a command
-abbrev pub names_command : List (List ℕ) → Bool
-names_command [] = false
-names_command (name ∷ words) = is_name (codes "verify") name || is_name (codes "inspect") name
-
 -- the command that the words are, if they are one
 abbrev pub command_of : List (List ℕ) → Option Command
 command_of [] = None
@@ -43,3 +40,19 @@ command_of (name ∷ words) =
     if is_name (codes "verify") name then verify_command words
     else if is_name (codes "inspect") name then inspect_command words
     else None
+
+-- the words ask for this command; they are no command
+abbrev pub Asks : List (String Global) → Command → Type 0
+Asks words command = command_of (map string_bytes words) ≡ Some command
+
+abbrev pub IsNoCommand : List (String Global) → Type 0
+IsNoCommand words = command_of (map string_bytes words) ≡ None
+
+-- a command that makes calls on the disk
+abbrev pub needs_disk : Command → Bool
+needs_disk (Verify id k challenge proof) = false
+needs_disk (Inspect file) = true
+
+-- the words are no such command
+abbrev pub NeedsNoDisk : List (String Global) → Type 0
+NeedsNoDisk words = IfSome (command_of (map string_bytes words)) (λ command. IsFalse (needs_disk command))

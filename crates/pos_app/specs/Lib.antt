@@ -1,5 +1,9 @@
 pub mod Words
 pub mod Command
 pub mod Read
+pub mod Statuses
 pub mod Texts
 pub mod Answers
+pub mod VerifyAnswers
+pub mod InspectAnswers
+pub mod Obeyed

@@ -1,87 +1,82 @@
-// Which words are a command.
-ghost use Rattle.std.specs.Prelude.{◌≡◌, ◌≤◌, ◌^◌, map, IfOk, IsOk, IfSome, IfNone, IsTrue, ◌↔◌, Some, string_bytes};
-ghost use Rattle.std.specs.Bool.{IsFalse};
+// Which words are a command. A command borrows its words, so that reading them takes no memory.
+ghost use Rattle.std.specs.Prelude.{◌≡◌, ◌≤◌, ◌^◌, ◌%◌, map, length, IfSome, IfNone, IsSome, IsTrue, ◌↔◌, Some, None, string_bytes};
+ghost use Rattle.std.specs.List.{AllPass};
 ghost use Rattle.std.specs.Option.{option_map};
+ghost use Rattle.hex.specs.Hex.{is_hex_digit};
 ghost use Rattle.pos_app.specs.Words.{decimal_word, size_word, hash_word, bytes_word, file_word};
-ghost use Rattle.pos_app.specs.Command.{command_of, names_command, verify_command, inspect_command};
+ghost use Rattle.pos_app.specs.Command.{command_of, verify_command, inspect_command};
 ghost use Rattle.pos_app.specs.Read.{Reads, IsPlain};
 
-use hex::{FromHex, FromHexError};
-use pos_bits::Memory;
+use hex::FromHex;
 use pos_tuple::{Challenge, Id, Size};
-use std::alloc::Global;
 
 /// A command, with what its words write.
-#[derive(Drop)]
-pub enum Command {
-    /// Judge the bytes of a proof.
-    Verify(Judged),
+#[derive(Clone, Copy)]
+pub enum Command<'a> {
+    /// Judge a proof.
+    Verify(Judged<'a>),
     /// Show what the header of the plot file of this name says.
-    Inspect(String),
+    Inspect(&'a str),
 }
 
-/// The bytes of a proof, with what they are to be a proof for.
-#[derive(Drop)]
-pub struct Judged {
+/// A proof, as an even number of hexadecimal digits, with what it is to be a proof for.
+#[derive(Clone, Copy)]
+pub struct Judged<'a> {
     pub id: Id,
     pub size: Size,
     pub challenge: Challenge,
-    pub proof: Vec<u8>,
+    pub proof: &'a str,
 }
 
 /// Reads the words of a command line, those after the program's name. None where they are no command.
-pub fn read_command(alloc: Global, words: &[String]) -> Result<Option<Command>, Memory>
-    ensures command { IfOk result (λ command. Reads command (command_of (map string_bytes words.now))) }
-    ensures no_memory { IsFalse (names_command (map string_bytes words.now)) → IsOk result }
+pub fn read_command(words: &[String]) -> Option<Command<'_>>
+    ensures { Reads result (command_of (map string_bytes words.now)) }
 {
     match words.split_first() {
-        Some((name, rest)) if name.as_str() == "verify" => read_verify(alloc, rest),
-        Some((name, rest)) if name.as_str() == "inspect" => read_inspect(alloc, rest),
-        _ => Ok(None),
+        Some((name, rest)) if name.as_str() == "verify" => read_verify(rest),
+        Some((name, rest)) if name.as_str() == "inspect" => read_inspect(rest),
+        _ => None,
     }
 }
 
 // Reads the words behind `verify`.
-fn read_verify(alloc: Global, words: &[String]) -> Result<Option<Command>, Memory>
-    ensures { IfOk result (λ command. Reads command (verify_command (map string_bytes words.now))) }
+fn read_verify(words: &[String]) -> Option<Command<'_>>
+    ensures { Reads result (verify_command (map string_bytes words.now)) }
 {
     if words.len() != 4 {
-        return Ok(None);
+        return None;
     }
     let Some(id) = read_hash(words[0].as_str()) else {
-        return Ok(None);
+        return None;
     };
     let Some(size) = read_size(words[1].as_str()) else {
-        return Ok(None);
+        return None;
     };
     let Some(challenge) = read_hash(words[2].as_str()) else {
-        return Ok(None);
+        return None;
     };
-    let Some(proof) = read_bytes(alloc, words[3].as_str())? else {
-        return Ok(None);
+    let Some(proof) = read_digits(words[3].as_str()) else {
+        return None;
     };
-    Ok(Some(Command::Verify(Judged {
+    Some(Command::Verify(Judged {
         id: Id(id),
         size,
         challenge: Challenge(challenge),
         proof,
-    })))
+    }))
 }
 
 // Reads the word behind `inspect`.
-fn read_inspect(alloc: Global, words: &[String]) -> Result<Option<Command>, Memory>
-    ensures { IfOk result (λ command. Reads command (inspect_command (map string_bytes words.now))) }
+fn read_inspect(words: &[String]) -> Option<Command<'_>>
+    ensures { Reads result (inspect_command (map string_bytes words.now)) }
 {
     if words.len() != 1 {
-        return Ok(None);
+        return None;
     }
     let Some(file) = read_file(words[0].as_str()) else {
-        return Ok(None);
+        return None;
     };
-    match String::from_str(alloc, file) {
-        Ok(file) => Ok(Some(Command::Inspect(file))),
-        Err(_) => Err(Memory),
-    }
+    Some(Command::Inspect(file))
 }
 
 // The name of a file.
@@ -101,15 +96,30 @@ fn read_hash(word: &str) -> Option<[u8; 32]>
     <[u8; 32] as FromHex>::from_hex(word).ok()
 }
 
-// The bytes that an even number of hexadecimal digits write.
-fn read_bytes(alloc: Global, word: &str) -> Result<Option<Vec<u8>>, Memory>
-    ensures { IfOk result (λ bytes. option_map (λ v. v.items) bytes ≡ bytes_word word.now) }
+// An even number of hexadecimal digits.
+#[tactic(auto, using(crate::proofs::DigitLemmas::some_digits, crate::proofs::DigitLemmas::none_digits))]
+fn read_digits(word: &str) -> Option<&str>
+    ensures some { IfSome result (λ digits. (digits.now ≡ word.now) × IsSome (bytes_word word.now)) }
+    ensures none { IfNone result (bytes_word word.now ≡ None) }
 {
-    match hex::decode(alloc, word) {
-        Ok(bytes) => Ok(Some(bytes)),
-        Err(FromHexError::OutOfMemory) => Err(Memory),
-        Err(_) => Ok(None),
+    if word.len() % 2 == 0 && are_digits(word.as_bytes()) {
+        Some(word)
+    } else {
+        None
     }
+}
+
+// Only hexadecimal digits, in either case.
+fn are_digits(bytes: &[u8]) -> bool
+    ensures { IsTrue result ↔ AllPass is_hex_digit bytes.now }
+{
+    bytes.iter().all(|byte| is_digit(*byte))
+}
+
+fn is_digit(byte: u8) -> bool
+    ensures { result ≡ is_hex_digit byte }
+{
+    matches!(byte, b'0'..=b'9' | b'a'..=b'f' | b'A'..=b'F')
 }
 
 // A size in decimal.

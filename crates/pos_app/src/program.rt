@@ -1,13 +1,18 @@
 // The top call.
-ghost use Rattle.std.specs.Prelude.{◌≡◌, ◌⊎◌, ℕ, List, map, None, Some, IfOk, OnErr, string_bytes};
+ghost use Rattle.std.specs.Prelude.{◌≡◌, ◌≢◌, ◌*◌, ◌⊎◌, ◌↔◌, ℕ, List, IfOk, IsSome, OnErr, length, string_bytes};
 ghost use Rattle.std.specs.Bool.{IsFalse};
 ghost use Rattle.pos_edge.specs.Faults.{Rose};
 ghost use Rattle.pos_edge.specs.Frame.{ChangesOnly, Nothing};
-ghost use Rattle.pos_verify.specs.Verdict.{IsAcceptance};
-ghost use Rattle.pos_app.specs.Command.{Verify, Inspect, command_of, names_command};
+ghost use Rattle.pos_verify.specs.Verdict.{IsAcceptance, IsProofBytes, IsRight};
+ghost use Rattle.pos_app.specs.Words.{bytes_word};
+ghost use Rattle.pos_app.specs.Command.{Verify, Inspect, Asks, IsNoCommand, NeedsNoDisk, needs_disk};
+ghost use Rattle.pos_app.specs.Statuses.{done_status, refused_status, usage_status, disk_fault_status, sink_fault_status, memory_status};
 ghost use Rattle.pos_app.specs.Texts.{usage_line};
-ghost use Rattle.pos_app.specs.Answers.{heard, Speaks, Says, IsUnsaid, LeavesAlone, SaysVerdict, SaysInspection, SaysAnswer, TellsProofs, TellsAnswer, verdict_status};
-ghost use Rattle.pos_app.specs.Read.{meant};
+ghost use Rattle.pos_app.specs.Answers.{heard, Speaks, IsUnsaid, EndsWith, TellsFaults};
+ghost use Rattle.pos_app.specs.VerifyAnswers.{SaysVerdict, TellsProofs, verdict_status};
+ghost use Rattle.pos_app.specs.InspectAnswers.{SaysInspection};
+ghost use Rattle.pos_app.specs.Obeyed.{SaysAnswer, TellsAnswer};
+ghost use Rattle.pos_app.specs.Read.{HasDigits, digits_bytes, meant};
 
 use crate::command::{Command, Judged, read_command};
 use crate::text::{
@@ -36,63 +41,102 @@ const SINK_FAULT: u8 = 7;
 
 const OUT_OF_MEMORY: u8 = 9;
 
+// The most bytes that a proof of any size has.
+const LONGEST_PROOF: usize = 400;
+
 /// Runs the program on the words behind its name, and answers its status. Every text goes to `out`.
 pub fn run<D: Disk, S: Sink>(alloc: Global, words: &[String], disk: &mut D, out: &mut S) -> u8
-    // Words that are no command.
-    ensures usage { command_of (map string_bytes words.now) ≡ None → Says 2 usage_line result (heard (S.text out.old) (S.faults out.old)) (heard (S.text out.new) (S.faults out.new)) }
-    ensures no_memory { IsFalse (names_command (map string_bytes words.now)) → (result ≡ 2) ⊎ (result ≡ 7) }
+    // Words that are no command take no memory.
+    ensures usage { IsNoCommand words.now
+        → Speaks usage_status usage_line result (heard (S.text out.old) (S.faults out.old)) (heard (S.text out.new) (S.faults out.new)) }
 
     // `verify ID K CHALLENGE PROOF`.
-    ensures verify { (id challenge proof : List ℕ) (k : ℕ) → command_of (map string_bytes words.now) ≡ Some (Verify id k challenge proof)
+    ensures verify { (id challenge proof : List ℕ) (k : ℕ) → Asks words.now (Verify id k challenge proof)
         → SaysVerdict id k challenge proof result (heard (S.text out.old) (S.faults out.old)) (heard (S.text out.new) (S.faults out.new)) }
-    ensures proofs { (id challenge proof : List ℕ) (k : ℕ) → command_of (map string_bytes words.now) ≡ Some (Verify id k challenge proof)
+    ensures proofs { (id challenge proof : List ℕ) (k : ℕ) → Asks words.now (Verify id k challenge proof)
         → TellsProofs id k challenge proof result }
 
     // `inspect FILE`.
-    ensures inspect { (file : List ℕ) → command_of (map string_bytes words.now) ≡ Some (Inspect file)
+    ensures inspect { (file : List ℕ) → Asks words.now (Inspect file)
         → SaysInspection file (D.view disk.old) (D.view disk.new) result (heard (S.text out.old) (S.faults out.old)) (heard (S.text out.new) (S.faults out.new)) }
 
     // Every run.
-    ensures sink_fault { result ≡ 7 → Rose (S.faults out.old) (S.faults out.new) }
-    ensures out_of_memory { result ≡ 9 → S.text out.new ≡ S.text out.old }
-    ensures disk { ((file : List ℕ) → command_of (map string_bytes words.now) ≡ Some (Inspect file) → ⊥) → disk.new ≡ disk.old }
+    ensures sink_fault { result ≡ sink_fault_status → Rose (S.faults out.old) (S.faults out.new) }
+    ensures disk_fault { TellsFaults result (D.view disk.old) (D.view disk.new) }
+    ensures out_of_memory { result ≡ memory_status → S.text out.new ≡ S.text out.old }
+    ensures no_disk { NeedsNoDisk words.now → disk.new ≡ disk.old }
     ensures files { ChangesOnly Nothing Nothing (D.view disk.old) (D.view disk.new) }
 {
-    match read_command(alloc, words) {
-        Err(_) => OUT_OF_MEMORY,
-        Ok(None) => say(out, USAGE_LINE, USAGE),
-        Ok(Some(command)) => obey(alloc, &command, disk, out),
+    match read_command(words) {
+        None => say(out, USAGE_LINE, USAGE),
+        Some(command) => obey(alloc, &command, disk, out),
     }
 }
 
 // Does what a command says.
-fn obey<D: Disk, S: Sink>(alloc: Global, command: &Command, disk: &mut D, out: &mut S) -> u8
+fn obey<D: Disk, S: Sink>(alloc: Global, command: &Command<'_>, disk: &mut D, out: &mut S) -> u8
+    requires { HasDigits command.now }
     ensures answer { SaysAnswer (meant command.now) (D.view disk.old) (D.view disk.new) result (heard (S.text out.old) (S.faults out.old)) (heard (S.text out.new) (S.faults out.new)) }
     ensures proofs { TellsAnswer (meant command.now) result }
-    ensures disk { LeavesAlone (meant command.now) (disk.new ≡ disk.old) }
+    ensures faults { TellsFaults result (D.view disk.old) (D.view disk.new) }
+    ensures disk { IsFalse (needs_disk (meant command.now)) → disk.new ≡ disk.old }
     ensures files { ChangesOnly Nothing Nothing (D.view disk.old) (D.view disk.new) }
 {
     match command {
         Command::Verify(judged) => run_verify(alloc, judged, out),
-        Command::Inspect(file) => run_inspect(alloc, file.as_str(), disk, out),
+        Command::Inspect(file) => run_inspect(alloc, file, disk, out),
     }
 }
 
 // Judges a proof and says the verdict.
-fn run_verify<S: Sink>(alloc: Global, judged: &Judged, out: &mut S) -> u8
-    ensures verdict { SaysVerdict judged.now.id.0 judged.now.size judged.now.challenge.0 judged.now.proof.items result (heard (S.text out.old) (S.faults out.old)) (heard (S.text out.new) (S.faults out.new)) }
-    ensures proofs { TellsProofs judged.now.id.0 judged.now.size judged.now.challenge.0 judged.now.proof.items result }
+fn run_verify<S: Sink>(alloc: Global, judged: &Judged<'_>, out: &mut S) -> u8
+    requires { IsSome (bytes_word judged.now.proof.now) }
+    ensures verdict { SaysVerdict judged.now.id.0 judged.now.size judged.now.challenge.0 (digits_bytes judged.now.proof.now) result (heard (S.text out.old) (S.faults out.old)) (heard (S.text out.new) (S.faults out.new)) }
+    ensures proofs { TellsProofs judged.now.id.0 judged.now.size judged.now.challenge.0 (digits_bytes judged.now.proof.now) result }
+    ensures no_disk_fault { result ≢ disk_fault_status }
 {
-    let verdict = verify(&judged.id, judged.size, &judged.challenge, &judged.proof);
+    let verdict = judge(judged);
     match verdict_line(alloc, &verdict) {
         Err(_) => OUT_OF_MEMORY,
         Ok(line) => say(out, line.as_bytes(), status_of(&verdict)),
     }
 }
 
+// The verdict on the bytes that the digits write. More than any proof has are not decoded, so this takes no memory.
+#[tactic(auto, using(crate::proofs::DigitLemmas::length_digits))]
+fn judge(judged: &Judged<'_>) -> Verdict
+    requires { IsSome (bytes_word judged.now.proof.now) }
+    ensures right { IsRight judged.now.id.0 judged.now.size judged.now.challenge.0 (digits_bytes judged.now.proof.now) result }
+    ensures accepts { IsAcceptance result ↔ IsProofBytes judged.now.id.0 judged.now.size judged.now.challenge.0 (digits_bytes judged.now.proof.now) }
+{
+    let count = judged.proof.len() / 2;
+    if count > LONGEST_PROOF {
+        let want = 8 * u64::from(judged.size.k());
+        let found = count as u64;
+        return Verdict::WrongLength { want, found };
+    }
+    let mut buffer = [0; LONGEST_PROOF];
+    judge_bytes(judged, &mut buffer[..count])
+}
+
+// Decodes the digits into the bytes, for which there is just the room, and judges these.
+#[tactic(auto, using(crate::proofs::DigitLemmas::decoded_digits))]
+fn judge_bytes(judged: &Judged<'_>, bytes: &mut [u8]) -> Verdict
+    requires digits { IsSome (bytes_word judged.now.proof.now) }
+    requires room { length judged.now.proof.now ≡ 2 * length bytes.old }
+    ensures right { IsRight judged.now.id.0 judged.now.size judged.now.challenge.0 (digits_bytes judged.now.proof.now) result }
+    ensures accepts { IsAcceptance result ↔ IsProofBytes judged.now.id.0 judged.now.size judged.now.challenge.0 (digits_bytes judged.now.proof.now) }
+{
+    if hex::decode_to_slice(judged.proof, bytes).is_err() {
+        unreachable!();
+    }
+    verify(&judged.id, judged.size, &judged.challenge, bytes)
+}
+
 // Opens a plot file and says its header, or why it was not opened.
 fn run_inspect<D: Disk, S: Sink>(alloc: Global, file: &str, disk: &mut D, out: &mut S) -> u8
     ensures inspection { SaysInspection file.now (D.view disk.old) (D.view disk.new) result (heard (S.text out.old) (S.faults out.old)) (heard (S.text out.new) (S.faults out.new)) }
+    ensures faults { TellsFaults result (D.view disk.old) (D.view disk.new) }
     ensures files { ChangesOnly Nothing Nothing (D.view disk.old) (D.view disk.new) }
 {
     match Plot::open(alloc, disk, file) {
@@ -108,6 +152,7 @@ fn run_inspect<D: Disk, S: Sink>(alloc: Global, file: &str, disk: &mut D, out: &
 fn say_text<S: Sink>(text: Result<String, Memory>, out: &mut S, status: u8) -> u8
     ensures said { IfOk text (λ line. Speaks status (string_bytes line) result (heard (S.text out.old) (S.faults out.old)) (heard (S.text out.new) (S.faults out.new))) }
     ensures unsaid { OnErr text (IsUnsaid result (heard (S.text out.old) (S.faults out.old)) (heard (S.text out.new) (S.faults out.new))) }
+    ensures ends { EndsWith status result }
 {
     match text {
         Ok(line) => say(out, line.as_bytes(), status),
@@ -118,8 +163,8 @@ fn say_text<S: Sink>(text: Result<String, Memory>, out: &mut S, status: u8) -> u
 // The status of a verdict.
 fn status_of(verdict: &Verdict) -> u8
     ensures status { result ≡ verdict_status verdict.now }
-    ensures accepted { IsAcceptance verdict.now → result ≡ 0 }
-    ensures refused { (IsAcceptance verdict.now → ⊥) → result ≡ 1 }
+    ensures accepted { IsAcceptance verdict.now → result ≡ done_status }
+    ensures refused { (IsAcceptance verdict.now → ⊥) → result ≡ refused_status }
 {
     if verdict.is_accepted() { DONE } else { REFUSED }
 }
@@ -127,7 +172,7 @@ fn status_of(verdict: &Verdict) -> u8
 // Writes a text and answers the status, or that of a sink that failed.
 fn say<S: Sink>(out: &mut S, text: &[u8], status: u8) -> u8
     ensures said { Speaks status text.now result (heard (S.text out.old) (S.faults out.old)) (heard (S.text out.new) (S.faults out.new)) }
-    ensures ends { (result ≡ status) ⊎ (result ≡ 7) }
+    ensures ends { (result ≡ status) ⊎ (result ≡ sink_fault_status) }
 {
     match out.put(text) {
         Ok(()) => status,

@@ -68,10 +68,12 @@ fn refusals_name_the_first_failing_test(rt: HostRuntime) -> Result<(), Fail> {
     let whole = repeated(alloc, "0", 288)?;
     let short = repeated(alloc, "0", 286)?;
     let long = repeated(alloc, "0", 290)?;
+    let longest = repeated(alloc, "0", 100_000)?;
     let rows = [
         ("18", ID, whole.as_str(), "refused match 1 0\n"),
         ("18", ID, short.as_str(), "refused length 144 143\n"),
         ("18", ID, long.as_str(), "refused length 144 145\n"),
+        ("18", ID, longest.as_str(), "refused length 144 50000\n"),
         ("18", ID, "", "refused length 144 0\n"),
         ("12", CHALLENGE, EXCHANGED, "refused match 6 0\n"),
         // a challenge whose first bits differ, and one whose first bit is turned

@@ -92,6 +92,13 @@ fn small_files_show_their_headers(rt: HostRuntime) -> Result<(), Fail> {
         b"id 0000000000000000000000000000000000000000000000000000000000000000\nk 10\ntable 1 0\ntable 2 0\ntable 3 0\ntable 4 0\ntable 5 0\ntable 6 0\ntable 7 0\nlength 176\n";
     assert_eq!(rt; text.as_slice(), wanted.as_slice());
     assert_eq!(rt; status, 0);
+    let mut largest = empty_file(alloc)?;
+    *largest.get_mut(48).ok_or("no size")? = 32;
+    let (status, text) = inspect(alloc, "toy", largest.as_slice(), &[])?;
+    let wanted =
+        b"id 0000000000000000000000000000000000000000000000000000000000000000\nk 32\ntable 1 0\ntable 2 0\ntable 3 0\ntable 4 0\ntable 5 0\ntable 6 0\ntable 7 0\nlength 176\n";
+    assert_eq!(rt; text.as_slice(), wanted.as_slice());
+    assert_eq!(rt; status, 0);
     Ok(())
 }
 
