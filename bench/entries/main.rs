@@ -120,26 +120,90 @@ fn four_blocks(key: &[u32; 8], block: u64, out: &mut [u32; 64]) {
     }
 }
 
+// One block of the stream.
 #[inline(never)]
-fn f1(id: &[u8; 32], k: u32, x: u64) -> u64 {
+fn one_block(key: &[u32; 8], block: u64) -> [u32; 16] {
+    let mut start = [0u32; 16];
+    start[..4].copy_from_slice(&[0x61707865, 0x3320646e, 0x79622d32, 0x6b206574]);
+    start[4..12].copy_from_slice(key);
+    start[12] = block as u32;
+    start[13] = (block >> 32) as u32;
+    let mut x = start;
+    let mut quarter = |a: usize, b: usize, c: usize, d: usize| {
+        x[a] = x[a].wrapping_add(x[b]);
+        x[d] = (x[d] ^ x[a]).rotate_left(16);
+        x[c] = x[c].wrapping_add(x[d]);
+        x[b] = (x[b] ^ x[c]).rotate_left(12);
+        x[a] = x[a].wrapping_add(x[b]);
+        x[d] = (x[d] ^ x[a]).rotate_left(8);
+        x[c] = x[c].wrapping_add(x[d]);
+        x[b] = (x[b] ^ x[c]).rotate_left(7);
+    };
+    for _ in 0..4 {
+        quarter(0, 4, 8, 12);
+        quarter(1, 5, 9, 13);
+        quarter(2, 6, 10, 14);
+        quarter(3, 7, 11, 15);
+        quarter(0, 5, 10, 15);
+        quarter(1, 6, 11, 12);
+        quarter(2, 7, 8, 13);
+        quarter(3, 4, 9, 14);
+    }
+    std::array::from_fn(|i| x[i].wrapping_add(start[i]))
+}
+
+fn key_of(id: &[u8; 32]) -> [u32; 8] {
     let mut seed = [1u8; 32];
     seed[1..].copy_from_slice(&id[..31]);
     let mut key = [0u32; 8];
     for (word, four) in key.iter_mut().zip(seed.chunks_exact(4)) {
         *word = u32::from_le_bytes(four.try_into().unwrap());
     }
-    let start = x * u64::from(k);
-    let word = start / 32;
-    let mut words = [0u32; 64];
-    four_blocks(&key, word / 16, &mut words);
-    let at = (word % 16) as usize;
-    let mut window = 0u128;
-    for i in 0..3 {
-        window = (window << 32) + u128::from(words[at + i].swap_bytes());
-    }
+    key
+}
+
+// f1 by the three words of its window.
+fn f1_of(words: &[u32], k: u32, x: u64, start: u64) -> u64 {
+    let window = words[..3].iter().fold(0u128, |sum, word| (sum << 32) + u128::from(word.swap_bytes()));
     let low = window >> (96 - (start % 32) as u32 - k);
     let stream = (low & ((1 << k) - 1)) as u64;
     (stream << 6) + (x >> (k - 6))
+}
+
+// By the steps of the proved one, whose generator makes four blocks at a time.
+#[inline(never)]
+fn f1(id: &[u8; 32], k: u32, x: u64) -> u64 {
+    let start = x * u64::from(k);
+    let word = start / 32;
+    let mut words = [0u32; 64];
+    four_blocks(&key_of(id), word / 16, &mut words);
+    f1_of(&words[(word % 16) as usize..], k, x, start)
+}
+
+// With the one or two blocks alone that the window lies in.
+#[inline(never)]
+fn f1_few_blocks(id: &[u8; 32], k: u32, x: u64) -> u64 {
+    let key = key_of(id);
+    let start = x * u64::from(k);
+    let word = start / 32;
+    let at = (word % 16) as usize;
+    let mut words = [0u32; 32];
+    words[..16].copy_from_slice(&one_block(&key, word / 16));
+    if at + 3 > 16 {
+        words[16..].copy_from_slice(&one_block(&key, word / 16 + 1));
+    }
+    f1_of(&words[at..], k, x, start)
+}
+
+fn time_f1(name: &str, f1: fn(&[u8; 32], u32, u64) -> u64) {
+    let calls = 1_000_000u64;
+    let id = [7u8; 32];
+    let start = Instant::now();
+    let mut sum = 0u64;
+    for x in 0..calls {
+        sum = sum.wrapping_add(f1(black_box(&id), 32, x.wrapping_mul(2654435761) % (1 << 32)));
+    }
+    println!("{name} {} ps a call, {sum}", start.elapsed().as_nanos() as u64 * 1000 / calls);
 }
 
 fn main() {
@@ -150,11 +214,6 @@ fn main() {
         sum ^= hash_block(black_box(&[(x & 0xff) as u8; 37]))[0];
     }
     println!("hash_block {} ps a call, {sum}", start.elapsed().as_nanos() as u64 * 1000 / calls);
-    let id = [7u8; 32];
-    let start = Instant::now();
-    let mut sum = 0u64;
-    for x in 0..calls {
-        sum = sum.wrapping_add(f1(black_box(&id), 32, x.wrapping_mul(2654435761) % (1 << 32)));
-    }
-    println!("f1 {} ps a call, {sum}", start.elapsed().as_nanos() as u64 * 1000 / calls);
+    time_f1("f1", f1);
+    time_f1("f1_few_blocks", f1_few_blocks);
 }

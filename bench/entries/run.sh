@@ -1,5 +1,6 @@
 #!/usr/bin/env bash
-# Times the one-block hash and f1 in the proved crates against plain Rust of the same steps, by turns; then fx and verify.
+# Times the one-block hash and f1 in the proved crates against plain Rust of the same steps, by turns; f1 also against one
+# that makes no block of the stream that it does not need; then fx and verify.
 set -eu
 here="$(cd "$(dirname "$0")" && pwd)"
 top="$(cd "$here/../.." && pwd)"
