@@ -2,21 +2,11 @@
 use Rattle.std.proofs.Common.{◌≡◌, ℕ, ◌+◌, ◌^◌, ◌<◌, ◌≤◌, ◌⊎◌, List, [], ◌∷◌, ◌++◌, length, get_or, arith, sym, ◌∙◌, ap, subst, inl, inr, ⊎_elim}
 use Rattle.std.specs.List.{Contains}
 use Rattle.std.proofs.lemmas.Bool.{cases_lt, cases_order}
-use Rattle.std.proofs.lemmas.List.Elements.{All-nil, All-push, All-weaker, All-get_or, Contains-append_left, Contains-push}
+use Rattle.std.proofs.lemmas.List.Elements.{All-push, All-weaker, All-get_or, Contains-append_left, Contains-push}
 use Rattle.std.proofs.lemmas.List.Quantifiers.{all_pairs_push}
 use Rattle.pos_buckets.specs.Pairs.{IsPair, ComesBefore, ArePairs}
 use Rattle.pos_buckets.specs.PairsBelow.{only_target, point, pair_point, ArePairsBelow}
 use Rattle.pos_buckets.proofs.TargetLemmas.{match-place, only-is}
-
-pub below-none : (l r : List ℕ) (pairs : List (ℕ × ℕ)) → pairs ≡ [] → ArePairsBelow l r 0 pairs
-below-none l r pairs e =
-    subst (λ ps. ArePairsBelow l r 0 ps) (sym e)
-    (record {
-      each = All-nil (IsPair l r);
-      below = All-nil (λ p. pair_point l r p < 0);
-      all = λ p is lt. absurd (omega arith);
-      order = λ i j d lt lt2. absurd (omega arith);
-    })
 
 pub below-past :
     (l r : List ℕ) (n m : ℕ) (pairs : List (ℕ × ℕ)) → ArePairsBelow l r n pairs → n ≤ m

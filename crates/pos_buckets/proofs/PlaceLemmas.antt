@@ -3,7 +3,7 @@ use Rattle.std.proofs.Common.{◌≡◌, ◌≢◌, ℕ, ◌+◌, ◌-◌, ◌<�
 use Rattle.std.specs.List.Sorted.{IsNonDecreasing}
 use Rattle.std.proofs.lemmas.Bool.{cases_eq, cases_lt}
 use Rattle.std.proofs.lemmas.List.{get_or-set_other, get_or-set_same, length-set, get_or-replicate, length-replicate}
-use Rattle.pos_buckets.specs.Places.{HasRoom, AreInside, AreClear, AreMarked, AreLeftFrom}
+use Rattle.pos_buckets.specs.Places.{HasPlaces, AreInside, AreClear, AreMarked, AreLeftFrom}
 
 pub marked-none : (base : ℕ) (values marks firsts : List ℕ) → AreClear marks firsts → AreMarked base values 0 marks firsts
 marked-none base values marks firsts h = record {
@@ -14,7 +14,7 @@ marked-none base values marks firsts h = record {
 }
 
 room-set :
-    (marks firsts : List ℕ) (r v i : ℕ) → HasRoom marks firsts → HasRoom (set marks r v) (set firsts r i)
+    (marks firsts : List ℕ) (r v i : ℕ) → HasPlaces marks firsts → HasPlaces (set marks r v) (set firsts r i)
 room-set marks firsts r v i h = record {
   marks_count = length-set marks r v ∙ h.marks_count;
   firsts_count = length-set firsts r i ∙ h.firsts_count;

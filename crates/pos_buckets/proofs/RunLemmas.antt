@@ -1,8 +1,7 @@
 -- The pairs of one left value: target by target, and for each target the run of right values that are it.
-use Rattle.std.proofs.Common.{◌≡◌, ◌≢◌, ℕ, ◌+◌, ◌-◌, ◌*◌, ◌/◌, ◌%◌, ◌^◌, ◌<◌, ◌≤◌, ◌⊎◌, List, [], ◌∷◌, ◌++◌, length, get_or, arith, sym, ◌∙◌, ap, subst, ⊎_elim}
-use Rattle.std.specs.List.Sorted.{IsNonDecreasing}
+use Rattle.std.proofs.Common.{◌≡◌, ◌≢◌, ℕ, ◌+◌, ◌-◌, ◌*◌, ◌%◌, ◌^◌, ◌<◌, ◌≤◌, ◌⊎◌, List, [], ◌∷◌, ◌++◌, length, get_or, arith, sym, ◌∙◌, ap, subst, ⊎_elim}
 use Rattle.pos_tuple.specs.Match.{bucket}
-use Rattle.pos_buckets.specs.Pairs.{AreNeighbours, IsPair, ArePairs}
+use Rattle.pos_buckets.specs.Pairs.{IsPair, ArePairs}
 use Rattle.pos_buckets.specs.Places.{AreMarked}
 use Rattle.pos_buckets.specs.PairsBelow.{only_target, point, pair_point, AreBeside, ArePairsBelow, IsRun}
 use Rattle.pos_buckets.specs.Targets.{target_place}
@@ -122,18 +121,6 @@ target-run l r marks firsts base i m i_lt beside marked there =
 pub next-left : (l r : List ℕ) (i m : ℕ) (pairs : List (ℕ × ℕ)) → m ≡ 64 → ArePairsBelow l r (point i m 0) pairs → ArePairsBelow l r (point (i + 1) 0 0) pairs
 next-left l r i m pairs e h =
     let next : point i m 0 ≡ point (i + 1) 0 0 = omega arith in subst (λ n. ArePairsBelow l r n pairs) next h
-
--- neighbours of which none is empty
-pub beside-neighbours :
-    (l r : List ℕ) (base : ℕ) → 0 < length l → 0 < length r → AreNeighbours l r → IsNonDecreasing r
-    → base ≡ get_or r 0 0 / 15113 * 15113 → AreBeside base l r
-beside-neighbours l r base some_l some_r h rise e = record {
-  lefts = λ i lt. let next = h i 0 lt some_r in omega (arith, next);
-  rights = λ j lt.
-      let here = h 0 j some_l lt in
-      let first = h 0 0 some_l some_r in (omega (arith, here, first), omega (arith, here, first));
-  rise = rise;
-}
 
 pub pairs-none : (l r : List ℕ) (pairs : List (ℕ × ℕ)) → pairs ≡ [] → (length l ≡ 0) ⊎ (length r ≡ 0) → ArePairs l r pairs
 pairs-none l r pairs e none =

@@ -3,13 +3,13 @@ use Rattle.std.specs.Prelude.{◌≡◌, ℕ, ◌+◌, ◌-◌, ◌<◌, ◌≤�
 use Rattle.pos_buckets.specs.declared.places.Places.{Places}
 
 -- there is room for the 15113 places of a bucket
-pub record HasRoom (marks firsts : List ℕ) : Type 0 where
+pub record HasPlaces (marks firsts : List ℕ) : Type 0 where
   pub marks_count : length marks ≡ 15113
   pub firsts_count : length firsts ≡ 15113
 
 -- no place is marked
 pub record AreClear (marks firsts : List ℕ) : Type 0 where
-  pub room : HasRoom marks firsts
+  pub room : HasPlaces marks firsts
   pub none : (r : ℕ) → r < 15113 → slice_index marks r ≡ 0
 
 -- no place has a value
@@ -23,7 +23,7 @@ AreInside base values = (i : ℕ) → i < length values →
 
 -- exactly the places of the first n values are marked, and each that is marked has the index of the first value there
 pub record AreMarked (base : ℕ) (values : List ℕ) (n : ℕ) (marks firsts : List ℕ) : Type 0 where
-  pub room : HasRoom marks firsts
+  pub room : HasPlaces marks firsts
   pub first : (r : ℕ) → r < 15113 → 0 < slice_index marks r →
       (slice_index firsts r < n) × (slice_index values (slice_index firsts r) ≡ base + r)
   pub least : (r i : ℕ) → r < 15113 → 0 < slice_index marks r → i < slice_index firsts r →
@@ -36,7 +36,7 @@ IsMarked base values p = AreMarked base values (length values) p.marks.items p.f
 
 -- the marks that are left have their first value at n or behind
 pub record AreLeftFrom (base : ℕ) (values : List ℕ) (n : ℕ) (marks firsts : List ℕ) : Type 0 where
-  pub room : HasRoom marks firsts
+  pub room : HasPlaces marks firsts
   pub first : (r : ℕ) → r < 15113 → 0 < slice_index marks r →
       (n ≤ slice_index firsts r) × (slice_index firsts r < length values)
       × (slice_index values (slice_index firsts r) ≡ base + r)

@@ -9,18 +9,18 @@ use Rattle.std.proofs.lemmas.Option.{none-some, same_Some, slice_get-map, slice_
 use Rattle.pos_edge.specs.declared.doubles.blank_disk.BlankFile.{BlankFile}
 use Rattle.pos_edge.specs.declared.doubles.blank_disk.BlankHandle.{BlankHandle}
 use Rattle.pos_edge.specs.BlankDisks.{BlankName, BlankState, HasName, HasLength, size_if_live}
-use Rattle.pos_edge.specs.BlankFiles.{name_of, names_of, IsThereAt, change_at}
+use Rattle.pos_edge.specs.BlankFiles.{name_of, blank_names, IsThereAt, change_at}
 use Rattle.pos_edge.specs.Quiet.{known_size}
 use Rattle.pos_edge.proofs.Kept.{map_get, map-set_at, map-push}
 use Rattle.pos_edge.proofs.Events.{slice_get-push_new}
 
-pub read_at_place : (files : List BlankFile) (i : ℕ) (x : BlankFile) → i < length files → x ≡ get_or files i x → slice_get (names_of files) i ≡ Some (name_of x)
+pub read_at_place : (files : List BlankFile) (i : ℕ) (x : BlankFile) → i < length files → x ≡ get_or files i x → slice_get (blank_names files) i ≡ Some (name_of x)
 read_at_place files i x h e = slice_get-map name_of files i ∙ ap (option_map name_of) (slice_get_read files (length files) i x refl h e)
 
-pub there_at : (files : List BlankFile) (i : ℕ) (x : BlankFile) (n : List ℕ) → i < length files → x ≡ get_or files i x → x.there ≡ true → string_bytes x.name ≡ n → IsThereAt (names_of files) i n
+pub there_at : (files : List BlankFile) (i : ℕ) (x : BlankFile) (n : List ℕ) → i < length files → x ≡ get_or files i x → x.there ≡ true → string_bytes x.name ≡ n → IsThereAt (blank_names files) i n
 there_at files i x n h e there is = (name_of x, read_at_place files i x h e, there, is)
 
-pub not_there_at : (files : List BlankFile) (i : ℕ) (x : BlankFile) (n : List ℕ) → i < length files → x ≡ get_or files i x → (x.there ≡ true → string_bytes x.name ≡ n → ⊥) → IsThereAt (names_of files) i n → ⊥
+pub not_there_at : (files : List BlankFile) (i : ℕ) (x : BlankFile) (n : List ℕ) → i < length files → x ≡ get_or files i x → (x.there ≡ true → string_bytes x.name ≡ n → ⊥) → IsThereAt (blank_names files) i n → ⊥
 not_there_at files i x n h e not t =
     let same : t.0 ≡ name_of x = same_Some t.0 (name_of x) (sym t.1 ∙ read_at_place files i x h e) in
     not (sym (ap (λ (k : BlankName). k.there) same) ∙ t.2) (sym (ap (λ (k : BlankName). k.name) same) ∙ t.3)
@@ -31,15 +31,15 @@ has_name d i n t = (i, t.0, slice_get_within d.names i t.0 t.1, get_or_from_slic
 pub has_length : (d : BlankState) (i : ℕ) (n : List ℕ) (size : ℕ) (t : IsThereAt d.names i n) → t.0.length ≡ size → HasLength n size d
 has_length d i n size t e = (i, t.0, slice_get_within d.names i t.0 t.1, get_or_from_slice_get d.names i t.0 t.0 t.1, (t.2, t.3, e))
 
-pub no_name : (files : List BlankFile) (d : BlankState) (n : List ℕ) → names_of files ≡ d.names → ((i : ℕ) → i < length files → IsThereAt (names_of files) i n → ⊥) → HasName n d → ⊥
+pub no_name : (files : List BlankFile) (d : BlankState) (n : List ℕ) → blank_names files ≡ d.names → ((i : ℕ) → i < length files → IsThereAt (blank_names files) i n → ⊥) → HasName n d → ⊥
 no_name files d n is none h =
     none h.0 (omega (arith, h.2, ap length is, length-map files name_of)) (h.1, subst (λ ns. slice_get ns h.0 ≡ Some h.1) (sym is) (slice_get-get_or d.names h.0 h.1 h.2 ∙ ap (λ x. Some x) h.3), h.4.0, h.4.1)
 
 -- a place that was changed
 pub change_is : (f : BlankName → BlankName) (files : List BlankFile) (slot : ℕ) (x y : BlankFile) → slot < length files → x ≡ get_or files slot x → name_of y ≡ f (name_of x)
-    → names_of (set files slot y) ≡ change_at f slot (names_of files) (slice_get (names_of files) slot)
+    → blank_names (set files slot y) ≡ change_at f slot (blank_names files) (slice_get (blank_names files) slot)
 change_is f files slot x y h e is =
-    map-set_at name_of files slot y ∙ (ap (set (names_of files) slot) is ∙ sym (ap (change_at f slot (names_of files)) (read_at_place files slot x h e)))
+    map-set_at name_of files slot y ∙ (ap (set (blank_names files) slot) is ∙ sym (ap (change_at f slot (blank_names files)) (read_at_place files slot x h e)))
 
 -- sizes of handles that were changed
 pub sizes-set : (handles : List BlankHandle) (id : ℕ) (h : BlankHandle) (o : Option ℕ) → size_if_live h ≡ o → map size_if_live (set handles id h) ≡ set (map size_if_live handles) id o
@@ -74,17 +74,17 @@ if_some None P e p = absurd (false≢true (sym e))
 if_some (Some x) P e p = (x, p)
 
 -- what `find` found, in the list that it was given
-pub found_of : (given files : List BlankFile) (n : List ℕ) (r : Option ℕ) → given ≡ files → true ≡ is_some r → IfSome r (λ i. (i < length given) × IsThereAt (names_of given) i n) → (i : ℕ) × (i < length files) × IsThereAt (names_of files) i n
-found_of given files n r e some found = subst (λ xs. (i : ℕ) × (i < length xs) × IsThereAt (names_of xs) i n) e (let f = if_some r (λ i. (i < length given) × IsThereAt (names_of given) i n) some found in (f.0, f.1.0, f.1.1))
+pub found_of : (given files : List BlankFile) (n : List ℕ) (r : Option ℕ) → given ≡ files → true ≡ is_some r → IfSome r (λ i. (i < length given) × IsThereAt (blank_names given) i n) → (i : ℕ) × (i < length files) × IsThereAt (blank_names files) i n
+found_of given files n r e some found = subst (λ xs. (i : ℕ) × (i < length xs) × IsThereAt (blank_names xs) i n) e (let f = if_some r (λ i. (i < length given) × IsThereAt (blank_names given) i n) some found in (f.0, f.1.0, f.1.1))
 
-pub none_of : (given files : List BlankFile) (n : List ℕ) (r : Option ℕ) → given ≡ files → false ≡ is_some r → IfNone r ((i : ℕ) → i < length given → IsThereAt (names_of given) i n → ⊥) → (i : ℕ) → i < length files → IsThereAt (names_of files) i n → ⊥
-none_of given files n r e none found = subst (λ xs. (i : ℕ) → i < length xs → IsThereAt (names_of xs) i n → ⊥) e (if_none r ((i : ℕ) → i < length given → IsThereAt (names_of given) i n → ⊥) none found)
+pub none_of : (given files : List BlankFile) (n : List ℕ) (r : Option ℕ) → given ≡ files → false ≡ is_some r → IfNone r ((i : ℕ) → i < length given → IsThereAt (blank_names given) i n → ⊥) → (i : ℕ) → i < length files → IsThereAt (blank_names files) i n → ⊥
+none_of given files n r e none found = subst (λ xs. (i : ℕ) → i < length xs → IsThereAt (blank_names xs) i n → ⊥) e (if_none r ((i : ℕ) → i < length given → IsThereAt (blank_names given) i n → ⊥) none found)
 
-pub place_named : (files : List BlankFile) (n name : List ℕ) (new : List BlankName) (d : BlankState) → names_of files ≡ d.names → new ≡ names_of files ++ record { name = name; there = true; length = 0 } ∷ [] → name ≡ n
+pub place_named : (files : List BlankFile) (n name : List ℕ) (new : List BlankName) (d : BlankState) → blank_names files ≡ d.names → new ≡ blank_names files ++ record { name = name; there = true; length = 0 } ∷ [] → name ≡ n
     → (k : ℕ) × (kept : BlankName) × (k < length new) × (get_or new k kept ≡ kept) × ((kept.there ≡ true) × (kept.name ≡ n) × (kept.length ≡ 0))
 place_named files n name new d is e same =
     let kept : BlankName = record { name = name; there = true; length = 0 } in
-    (length (names_of files), kept, omega (arith, ap length e, length_push (names_of files) kept), ap (λ xs. get_or xs (length (names_of files)) kept) e ∙ get_or_push (names_of files) kept kept (length (names_of files)) refl, (refl, same, refl))
+    (length (blank_names files), kept, omega (arith, ap length e, length_push (blank_names files) kept), ap (λ xs. get_or xs (length (blank_names files)) kept) e ∙ get_or_push (blank_names files) kept kept (length (blank_names files)) refl, (refl, same, refl))
 
 pub lengthened : (file : BlankFile) (size end : ℕ) → size ≡ max file.length end
     → ◌≡◌ {A = BlankName} (record { name = string_bytes file.name; there = file.there; length = size }) (record { name = string_bytes file.name; there = file.there; length = max file.length end })

@@ -8,7 +8,7 @@ use Rattle.std.proofs.lemmas.List.Sums.{fold_push}
 use Rattle.std.proofs.lemmas.Option.{none-some, same_Some, slice_get_within, get_or_from_slice_get}
 use Rattle.std.proofs.lemmas.Slice.Eq.{bytes_eq-Decides}
 use Rattle.pos_edge.specs.Log.{Act, Making, Writing, Syncing, Removing, Event, File, NameState, state_of, contents_of, bytes_of, acted, happened, never}
-use Rattle.pos_edge.specs.MemoryDisks.{DiskState, OpenFile, live_of, holds, is_there, name_in, IsSound, IsSoundFile}
+use Rattle.pos_edge.specs.MemoryDisks.{DiskState, OpenFile, live_of, holds, is_there, live_name, IsSoundDisk, IsSoundHandle}
 use Rattle.pos_edge.proofs.ScratchFiles.{cases_name}
 
 -- an event is seen under its own name alone
@@ -85,8 +85,8 @@ slice_get-set_other (z ∷ xs) (suc k) zero y other = refl
 slice_get-set_other (z ∷ xs) (suc k) (suc j) y other = slice_get-set_other xs k j y (λ e. other (ap suc e))
 
 -- what is sound of each FileId
-pub sound_at : (disk : DiskState) (f : ℕ) (h : OpenFile) → IsSound disk → slice_get disk.open_files f ≡ Some h → IsSoundFile disk.log h
-sound_at disk f h sound e = subst (IsSoundFile disk.log) (get_or_from_slice_get disk.open_files f h h e) (sound.files f h (slice_get_within disk.open_files f h e))
+pub sound_at : (disk : DiskState) (f : ℕ) (h : OpenFile) → IsSoundDisk disk → slice_get disk.open_files f ≡ Some h → IsSoundHandle disk.log h
+sound_at disk f h sound e = subst (IsSoundHandle disk.log) (get_or_from_slice_get disk.open_files f h h e) (sound.files f h (slice_get_within disk.open_files f h e))
 
 -- a FileId whose file was removed since has no name, and no later event gives it one
 pub gone_there : (h : OpenFile) (log : List Event) → h.removals < (state_of h.name log).removals → is_there h log ≡ false
@@ -100,35 +100,35 @@ gone_there h log less =
 pub there_is : (h : OpenFile) (log : List Event) → h.live ≡ true → (state_of h.name log).removals ≡ h.removals → holds h.size (contents_of h.name log) ≡ true → is_there h log ≡ true
 there_is h log live same held = rw (live, eq-eqb (state_of h.name log).removals h.removals same, held) refl
 
-pub not_there : (h : OpenFile) (log : List Event) → IsSoundFile log h → h.live ≡ true → is_there h log ≡ false → h.removals < (state_of h.name log).removals
+pub not_there : (h : OpenFile) (log : List Event) → IsSoundHandle log h → h.live ≡ true → is_there h log ≡ false → h.removals < (state_of h.name log).removals
 not_there h log sound live not = elim (cases_order h.removals (state_of h.name log).removals) [
   | inl same ↦ absurd (both_ways (is_there h log) not (there_is h log live (sym same) (sound.1 same)))
   | inr (inl less) ↦ less
   | inr (inr more) ↦ absurd (let x = sound.0 in omega arith)
 ]
 
-pub name_in-there : (h : OpenFile) (log : List Event) → is_there h log ≡ true → name_in log (Some h) ≡ Some h.name
-name_in-there h log t = cond-true (is_there h log) (Some h.name) None t
+pub live_name-there : (h : OpenFile) (log : List Event) → is_there h log ≡ true → live_name log (Some h) ≡ Some h.name
+live_name-there h log t = cond-true (is_there h log) (Some h.name) None t
 
-pub name_in-gone : (h : OpenFile) (log : List Event) → is_there h log ≡ false → name_in log (Some h) ≡ None
-name_in-gone h log t = cond-false (is_there h log) (Some h.name) None t
+pub live_name-gone : (h : OpenFile) (log : List Event) → is_there h log ≡ false → live_name log (Some h) ≡ None
+live_name-gone h log t = cond-false (is_there h log) (Some h.name) None t
 
 -- two histories that say the same of a FileId's name say the same of the FileId
-pub name_in-same : (h : OpenFile) (log new : List Event) → state_of h.name new ≡ state_of h.name log → name_in new (Some h) ≡ name_in log (Some h)
-name_in-same h log new e = ap (λ (s : NameState). cond (h.live && (s.removals == h.removals) && holds h.size (option_map bytes_of s.file)) (Some h.name) None) e
+pub live_name-same : (h : OpenFile) (log new : List Event) → state_of h.name new ≡ state_of h.name log → live_name new (Some h) ≡ live_name log (Some h)
+live_name-same h log new e = ap (λ (s : NameState). cond (h.live && (s.removals == h.removals) && holds h.size (option_map bytes_of s.file)) (Some h.name) None) e
 
 -- a FileId outside of an event's name keeps its file, and one without a file gets none
-pub name_kept : (log : List Event) (e : Event) (o : Option OpenFile) → ((h : OpenFile) → o ≡ Some h → IsSoundFile log h)
-    → live_of o ≡ true → (name_in log o ≡ Some e.name → ⊥) → name_in (log ++ e ∷ []) o ≡ name_in log o
+pub name_kept : (log : List Event) (e : Event) (o : Option OpenFile) → ((h : OpenFile) → o ≡ Some h → IsSoundHandle log h)
+    → live_of o ≡ true → (live_name log o ≡ Some e.name → ⊥) → live_name (log ++ e ∷ []) o ≡ live_name log o
 name_kept log e None sound live apart = refl
 name_kept log e (Some h) sound live apart = elim (cases_name e.name h.name) [
-  | inr other ↦ name_in-same h log (log ++ e ∷ []) (state_of-beside h.name log e other)
+  | inr other ↦ live_name-same h log (log ++ e ∷ []) (state_of-beside h.name log e other)
   | inl own ↦ elim (cases_Bool (is_there h log)) [
-    | inl yes' ↦ absurd (apart (name_in-there h log yes' ∙ ap (λ n. Some n) (sym own)))
+    | inl yes' ↦ absurd (apart (live_name-there h log yes' ∙ ap (λ n. Some n) (sym own)))
     | inr no' ↦
         let less = not_there h log (sound h refl) live no' in
         let grow = removals_grow h.name log e in
-        name_in-gone h (log ++ e ∷ []) (gone_there h (log ++ e ∷ []) (omega arith)) ∙ sym (name_in-gone h log no')
+        live_name-gone h (log ++ e ∷ []) (gone_there h (log ++ e ∷ []) (omega arith)) ∙ sym (live_name-gone h log no')
   ]
 ]
 
@@ -136,33 +136,33 @@ not_live : (h : OpenFile) (log : List Event) → h.live ≡ false → is_there h
 not_live h log dead = and_left (h.live && ((state_of h.name log).removals == h.removals)) (holds h.size (contents_of h.name log)) (and_left h.live ((state_of h.name log).removals == h.removals) dead)
 
 -- the same of any FileId, live or not
-pub name_kept_any : (log : List Event) (e : Event) (o : Option OpenFile) → ((h : OpenFile) → o ≡ Some h → IsSoundFile log h)
-    → (name_in log o ≡ Some e.name → ⊥) → name_in (log ++ e ∷ []) o ≡ name_in log o
+pub name_kept_any : (log : List Event) (e : Event) (o : Option OpenFile) → ((h : OpenFile) → o ≡ Some h → IsSoundHandle log h)
+    → (live_name log o ≡ Some e.name → ⊥) → live_name (log ++ e ∷ []) o ≡ live_name log o
 name_kept_any log e None sound apart = refl
 name_kept_any log e (Some h) sound apart = elim (cases_Bool h.live) [
   | inl live ↦ name_kept log e (Some h) sound live apart
-  | inr dead ↦ name_in-gone h (log ++ e ∷ []) (not_live h (log ++ e ∷ []) dead) ∙ sym (name_in-gone h log (not_live h log dead))
+  | inr dead ↦ live_name-gone h (log ++ e ∷ []) (not_live h (log ++ e ∷ []) dead) ∙ sym (live_name-gone h log (not_live h log dead))
 ]
 
 -- a removal leaves each FileId its file, or none
-pub name_kept_or_gone : (n : List ℕ) (log : List Event) (o : Option OpenFile) → ((h : OpenFile) → o ≡ Some h → IsSoundFile log h)
-    → (name_in (log ++ record { name = n; act = Removing } ∷ []) o ≡ name_in log o) ⊎ (name_in (log ++ record { name = n; act = Removing } ∷ []) o ≡ None)
+pub name_kept_or_gone : (n : List ℕ) (log : List Event) (o : Option OpenFile) → ((h : OpenFile) → o ≡ Some h → IsSoundHandle log h)
+    → (live_name (log ++ record { name = n; act = Removing } ∷ []) o ≡ live_name log o) ⊎ (live_name (log ++ record { name = n; act = Removing } ∷ []) o ≡ None)
 name_kept_or_gone n log None sound = inl refl
 name_kept_or_gone n log (Some h) sound = elim (cases_name n h.name) [
-  | inr other ↦ inl (name_in-same h log (log ++ record { name = n; act = Removing } ∷ []) (state_of-beside h.name log (record { name = n; act = Removing }) other))
+  | inr other ↦ inl (live_name-same h log (log ++ record { name = n; act = Removing } ∷ []) (state_of-beside h.name log (record { name = n; act = Removing }) other))
   | inl own ↦
       let now : (state_of h.name (log ++ record { name = n; act = Removing } ∷ [])).removals ≡ (state_of h.name log).removals + 1 = ap (λ (s : NameState). s.removals) (subst (λ x. state_of x (log ++ record { name = n; act = Removing } ∷ []) ≡ acted Removing (state_of x log)) own (state_of-own n log Removing)) in
-      inr (name_in-gone h (log ++ record { name = n; act = Removing } ∷ []) (gone_there h (log ++ record { name = n; act = Removing } ∷ []) (let x = (sound h refl).0 in omega arith)))
+      inr (live_name-gone h (log ++ record { name = n; act = Removing } ∷ []) (gone_there h (log ++ record { name = n; act = Removing } ∷ []) (let x = (sound h refl).0 in omega arith)))
 ]
 
 -- an event that removes nothing and shortens nothing leaves each FileId its file
-pub name_kept_act : (n : List ℕ) (log : List Event) (a : Act) (o : Option OpenFile) → ((h : OpenFile) → o ≡ Some h → IsSoundFile log h)
+pub name_kept_act : (n : List ℕ) (log : List Event) (a : Act) (o : Option OpenFile) → ((h : OpenFile) → o ≡ Some h → IsSoundHandle log h)
     → (acted a (state_of n log)).removals ≡ (state_of n log).removals
     → ((size : ℕ) → holds size (option_map bytes_of (state_of n log).file) ≡ true → holds size (option_map bytes_of (acted a (state_of n log)).file) ≡ true)
-    → name_in (log ++ record { name = n; act = a } ∷ []) o ≡ name_in log o
+    → live_name (log ++ record { name = n; act = a } ∷ []) o ≡ live_name log o
 name_kept_act n log a None sound same more = refl
 name_kept_act n log a (Some h) sound same more = elim (cases_name n h.name) [
-  | inr other ↦ name_in-same h log (log ++ e ∷ []) (state_of-beside h.name log e other)
+  | inr other ↦ live_name-same h log (log ++ e ∷ []) (state_of-beside h.name log e other)
   | inl own ↦ at_own own (cases_eq h.removals (state_of h.name log).removals)
 ] where
   e : Event
@@ -183,7 +183,7 @@ name_kept_act n log a (Some h) sound same more = elim (cases_name n h.name) [
   removals_is : (own : n ≡ h.name) → (state_of h.name (log ++ record { name = n; act = a } ∷ [])).removals ≡ (state_of h.name log).removals
   removals_is own = ap (λ (s : NameState). s.removals) (state_is own) ∙ same_at own
 
-  at_own : n ≡ h.name → (h.removals ≡ (state_of h.name log).removals) ⊎ (h.removals ≡ (state_of h.name log).removals → ⊥) → name_in (log ++ record { name = n; act = a } ∷ []) (Some h) ≡ name_in log (Some h)
+  at_own : n ≡ h.name → (h.removals ≡ (state_of h.name log).removals) ⊎ (h.removals ≡ (state_of h.name log).removals → ⊥) → live_name (log ++ record { name = n; act = a } ∷ []) (Some h) ≡ live_name log (Some h)
   at_own own (inl current) =
       let held = (sound h refl).1 current in
       let held' : holds h.size (contents_of h.name (log ++ record { name = n; act = a } ∷ [])) ≡ true = ap (λ (s : NameState). holds h.size (option_map bytes_of s.file)) (state_is own) ∙ more_at own h.size held in
@@ -193,7 +193,7 @@ name_kept_act n log a (Some h) sound same more = elim (cases_name n h.name) [
   at_own own (inr past) =
       let f : ((state_of h.name log).removals == h.removals) ≡ false = ne_eqb (state_of h.name log).removals h.removals (λ x. past (sym x)) in
       let f' : ((state_of h.name (log ++ record { name = n; act = a } ∷ [])).removals == h.removals) ≡ false = ap (λ x. x == h.removals) (removals_is own) ∙ f in
-      name_in-gone h (log ++ record { name = n; act = a } ∷ []) (never_there (log ++ record { name = n; act = a } ∷ []) f') ∙ sym (name_in-gone h log (never_there log f)) where
+      live_name-gone h (log ++ record { name = n; act = a } ∷ []) (never_there (log ++ record { name = n; act = a } ∷ []) f') ∙ sym (live_name-gone h log (never_there log f)) where
         and_second : (x y : Bool) → y ≡ false → (x && y) ≡ false
         and_second true y e = e
         and_second false y e = refl

@@ -13,8 +13,8 @@ use Rattle.pos_edge.specs.declared.doubles.history.Handle.{Handle}
 use Rattle.pos_edge.specs.declared.doubles.history.MemoryFile.{MemoryFile}
 use Rattle.pos_edge.specs.Images.{written}
 use Rattle.pos_edge.specs.Log.{Act, Making, Writing, Syncing, Removing, Event, File, NameState, state_of, bytes_of, with_write, as_synced, acted, happened, never, is_clean, is_none_left}
-use Rattle.pos_edge.specs.MemoryDisks.{OpenFile, IsSoundFile, HistoryState}
-use Rattle.pos_edge.specs.Histories.{Cache, cache_of, no_file, act_of, event_of, open_of, IsKeptFile, IsKept, Backs, is_dirty, HoldsTogether, made_file, written_file, synced_file, gone_file, KeepsOrAdds}
+use Rattle.pos_edge.specs.MemoryDisks.{OpenFile, IsSoundHandle, HistoryState}
+use Rattle.pos_edge.specs.Histories.{Cache, cache_of, no_file, act_of, event_of, open_of, IsCachedFile, IsCached, Backs, is_dirty, HoldsTogether, made_file, written_file, synced_file, gone_file, KeepsOrAdds}
 use Rattle.pos_edge.proofs.Events.{happened-other, happened-own, state_of-beside, state_of-own}
 use Rattle.pos_edge.proofs.ScratchFiles.{cases_name}
 use Rattle.pos_edge.proofs.MemoryFrames.{bytes_of-with_write}
@@ -77,8 +77,8 @@ pub removals_le : (n : List ℕ) (log : List Event) → (state_of n log).removal
 removals_le n log = let r = fold_removals n never log in omega (arith, r)
 
 -- the kept file after an act
-pub IsKept-made : (s : NameState) (c : Cache) → IsKept s c → IsKept (acted Making s) (made_file c)
-IsKept-made s c k = record { removals = k.removals; file = (refl, refl, refl) }
+pub IsCached-made : (s : NameState) (c : Cache) → IsCached s c → IsCached (acted Making s) (made_file c)
+IsCached-made s c k = record { removals = k.removals; file = (refl, refl, refl) }
 
 none_left-push : (ws : List (ℕ × List ℕ)) (w : ℕ × List ℕ) → is_none_left (ws ++ w ∷ []) ≡ false
 none_left-push [] w = refl
@@ -88,59 +88,59 @@ and_false : (b c : Bool) → c ≡ false → (b && c) ≡ false
 and_false true c e = e
 and_false false c e = refl
 
-there_file : (o : Option File) (c : Cache) → IsKeptFile o c → c.there ≡ true → (f : File) × (o ≡ Some f) × (bytes_of f ≡ c.bytes) × (is_clean f ≡ c.clean)
+there_file : (o : Option File) (c : Cache) → IsCachedFile o c → c.there ≡ true → (f : File) × (o ≡ Some f) × (bytes_of f ≡ c.bytes) × (is_clean f ≡ c.clean)
 there_file None c k t = absurd (false≢true (sym k ∙ t))
 there_file (Some f) c k t = (f, refl, k.1, k.2)
 
-pub IsKept-written : (at : ℕ) (piece : List ℕ) (s : NameState) (c : Cache) → c.there ≡ true → IsKept s c → IsKept (acted (Writing at piece) s) (written_file at piece c)
-IsKept-written at piece s c t k =
+pub IsCached-written : (at : ℕ) (piece : List ℕ) (s : NameState) (c : Cache) → c.there ≡ true → IsCached s c → IsCached (acted (Writing at piece) s) (written_file at piece c)
+IsCached-written at piece s c t k =
     let f = there_file s.file c k.file t in
     record {
       removals = k.removals;
-      file = subst (λ o. IsKeptFile (option_map (with_write at piece) o) (written_file at piece c)) (sym f.1)
+      file = subst (λ o. IsCachedFile (option_map (with_write at piece) o) (written_file at piece c)) (sym f.1)
           (t, bytes_of-with_write at piece f.0 ∙ ap (written at piece) f.2, and_false f.0.synced (is_none_left (f.0.writes ++ (at, piece) ∷ [])) (none_left-push f.0.writes (at, piece)));
     }
 
-pub IsKept-synced : (s : NameState) (c : Cache) → c.there ≡ true → IsKept s c → IsKept (acted Syncing s) (synced_file c)
-IsKept-synced s c t k =
+pub IsCached-synced : (s : NameState) (c : Cache) → c.there ≡ true → IsCached s c → IsCached (acted Syncing s) (synced_file c)
+IsCached-synced s c t k =
     let f = there_file s.file c k.file t in
-    record { removals = k.removals; file = subst (λ o. IsKeptFile (option_map as_synced o) (synced_file c)) (sym f.1) (t, f.2, refl) }
+    record { removals = k.removals; file = subst (λ o. IsCachedFile (option_map as_synced o) (synced_file c)) (sym f.1) (t, f.2, refl) }
 
-pub IsKept-gone : (s : NameState) (c : Cache) → IsKept s c → IsKept (acted Removing s) (gone_file c)
-IsKept-gone s c k = record { removals = ap (λ n. n + 1) k.removals; file = refl }
+pub IsCached-gone : (s : NameState) (c : Cache) → IsCached s c → IsCached (acted Removing s) (gone_file c)
+IsCached-gone s c k = record { removals = ap (λ n. n + 1) k.removals; file = refl }
 
 -- what is kept of a name's contents
-pub kept_there : (s : NameState) (c : Cache) → IsKept s c → c.there ≡ true → option_map bytes_of s.file ≡ Some c.bytes
+pub kept_there : (s : NameState) (c : Cache) → IsCached s c → c.there ≡ true → option_map bytes_of s.file ≡ Some c.bytes
 kept_there s c k t = let f = there_file s.file c k.file t in ap (option_map bytes_of) f.1 ∙ ap (λ b. Some b) f.2
 
-kept_none : (o : Option File) (c : Cache) → IsKeptFile o c → c.there ≡ false → option_map bytes_of o ≡ None
+kept_none : (o : Option File) (c : Cache) → IsCachedFile o c → c.there ≡ false → option_map bytes_of o ≡ None
 kept_none None c k t = refl
 kept_none (Some f) c k t = absurd (true≢false (sym k.0 ∙ t))
 
-pub kept_absent : (s : NameState) (c : Cache) → IsKept s c → c.there ≡ false → option_map bytes_of s.file ≡ None
+pub kept_absent : (s : NameState) (c : Cache) → IsCached s c → c.there ≡ false → option_map bytes_of s.file ≡ None
 kept_absent s c k t = kept_none s.file c k.file t
 
-kept_some : (o : Option File) (c : Cache) (bytes : List ℕ) → IsKeptFile o c → option_map bytes_of o ≡ Some bytes → (c.there ≡ true) × (c.bytes ≡ bytes)
+kept_some : (o : Option File) (c : Cache) (bytes : List ℕ) → IsCachedFile o c → option_map bytes_of o ≡ Some bytes → (c.there ≡ true) × (c.bytes ≡ bytes)
 kept_some None c bytes k e = absurd (none-some bytes e)
 kept_some (Some f) c bytes k e = (k.0, sym k.1 ∙ same_Some (bytes_of f) bytes e)
 
-pub kept_bytes : (s : NameState) (c : Cache) (bytes : List ℕ) → IsKept s c → option_map bytes_of s.file ≡ Some bytes → (c.there ≡ true) × (c.bytes ≡ bytes)
+pub kept_bytes : (s : NameState) (c : Cache) (bytes : List ℕ) → IsCached s c → option_map bytes_of s.file ≡ Some bytes → (c.there ≡ true) × (c.bytes ≡ bytes)
 kept_bytes s c bytes k e = kept_some s.file c bytes k.file e
 
 -- one act on a known name
 pub Backs-act : (names : List (List ℕ)) (files : List Cache) (log : List Event) (i : ℕ) (a : Act) (c : Cache) → Backs names files log → i < length names
-    → IsKept (acted a (state_of (get_or names i []) log)) c → Backs names (set files i c) (log ++ record { name = get_or names i []; act = a } ∷ [])
+    → IsCached (acted a (state_of (get_or names i []) log)) c → Backs names (set files i c) (log ++ record { name = get_or names i []; act = a } ∷ [])
 Backs-act names files log i a c b h k = record {
   beside = length-set files i c ∙ b.beside;
   distinct = b.distinct;
   known = All-push (λ event. (j : ℕ) × (j < length names) × (get_or names j [] ≡ event.name)) log (record { name = get_or names i []; act = a }) b.known (i, h, refl);
   kept = λ j hj. elim (cases_eq j i) [
-    | inl same ↦ subst (λ x. IsKept (state_of (get_or names x []) (log ++ record { name = get_or names i []; act = a } ∷ [])) (get_or (set files i c) x no_file)) (sym same)
-        (subst (λ (s : NameState). IsKept s (get_or (set files i c) i no_file)) (sym (state_of-own (get_or names i []) log a))
-        (subst (λ (x : Cache). IsKept (acted a (state_of (get_or names i []) log)) x) (sym (get_or-set_same files i c no_file (omega (arith, b.beside)))) k))
+    | inl same ↦ subst (λ x. IsCached (state_of (get_or names x []) (log ++ record { name = get_or names i []; act = a } ∷ [])) (get_or (set files i c) x no_file)) (sym same)
+        (subst (λ (s : NameState). IsCached s (get_or (set files i c) i no_file)) (sym (state_of-own (get_or names i []) log a))
+        (subst (λ (x : Cache). IsCached (acted a (state_of (get_or names i []) log)) x) (sym (get_or-set_same files i c no_file (omega (arith, b.beside)))) k))
     | inr other ↦
-        subst (λ (s : NameState). IsKept s (get_or (set files i c) j no_file)) (sym (state_of-beside (get_or names j []) log (record { name = get_or names i []; act = a }) (λ e. other (b.distinct j i hj h (sym e)))))
-        (subst (λ (x : Cache). IsKept (state_of (get_or names j []) log) x) (sym (get_or-set_other files i j c no_file other)) (b.kept j hj))
+        subst (λ (s : NameState). IsCached s (get_or (set files i c) j no_file)) (sym (state_of-beside (get_or names j []) log (record { name = get_or names i []; act = a }) (λ e. other (b.distinct j i hj h (sym e)))))
+        (subst (λ (x : Cache). IsCached (state_of (get_or names j []) log) x) (sym (get_or-set_other files i j c no_file other)) (b.kept j hj))
   ];
 }
 
@@ -162,10 +162,10 @@ Backs-add names files log n b new = record {
   known = All-weaker (λ event. (i : ℕ) × (i < length names) × (get_or names i [] ≡ event.name)) (λ event. (i : ℕ) × (i < length (names ++ n ∷ [])) × (get_or (names ++ n ∷ []) i [] ≡ event.name))
       (λ event w. (w.0, rw length_push (omega (arith, w.1)), at_old w.0 w.1 ∙ w.2)) log b.known;
   kept = λ i hi. elim (cases_eq i (length names)) [
-    | inl ei ↦ subst (λ (s : NameState). IsKept s (get_or (files ++ no_file ∷ []) i no_file)) (sym (ap (λ m. state_of m log) (at_new i ei) ∙ unknown_name names files log n b new))
-        (subst (λ (c : Cache). IsKept never c) (sym (get_or_push files no_file no_file i (b.beside ∙ sym ei))) (record { removals = refl; file = refl }))
-    | inr oi ↦ subst (λ m. IsKept (state_of m log) (get_or (files ++ no_file ∷ []) i no_file)) (sym (at_old i (before i hi oi)))
-        (subst (λ (c : Cache). IsKept (state_of (get_or names i []) log) c) (sym (get_or_append_left files (no_file ∷ []) no_file i (let x = before i hi oi in omega (arith, b.beside)))) (b.kept i (before i hi oi)))
+    | inl ei ↦ subst (λ (s : NameState). IsCached s (get_or (files ++ no_file ∷ []) i no_file)) (sym (ap (λ m. state_of m log) (at_new i ei) ∙ unknown_name names files log n b new))
+        (subst (λ (c : Cache). IsCached never c) (sym (get_or_push files no_file no_file i (b.beside ∙ sym ei))) (record { removals = refl; file = refl }))
+    | inr oi ↦ subst (λ m. IsCached (state_of m log) (get_or (files ++ no_file ∷ []) i no_file)) (sym (at_old i (before i hi oi)))
+        (subst (λ (c : Cache). IsCached (state_of (get_or names i []) log) c) (sym (get_or_append_left files (no_file ∷ []) no_file i (let x = before i hi oi in omega (arith, b.beside)))) (b.kept i (before i hi oi)))
   ];
 } where
   before : (i : ℕ) → i < length (names ++ n ∷ []) → (i ≡ length names → ⊥) → i < length names
@@ -214,7 +214,7 @@ HoldsTogether-names n names files new_names new_files entries handles cap (inr m
         backs = subst (λ l. Backs (map string_bytes names ++ n ∷ []) (map cache_of files ++ no_file ∷ []) l) (sym es) (Backs-add (map string_bytes names) (map cache_of files) (map (event_of (map string_bytes names)) entries) n h.backs (λ i hi. more.0 i (omega (arith, hi, length-map names string_bytes))));
         entries_in = All-weaker (λ entry. entry.slot < length (map string_bytes names)) (λ entry. entry.slot < length (map string_bytes names ++ n ∷ [])) (λ entry x. rw length_push (omega (arith, x))) entries h.entries_in;
         handles_in = All-weaker (λ handle. handle.slot < length (map string_bytes names)) (λ handle. handle.slot < length (map string_bytes names ++ n ∷ [])) (λ handle x. rw length_push (omega (arith, x))) handles h.handles_in;
-        sound = subst (λ l. All (IsSoundFile l) (map (open_of (map string_bytes names ++ n ∷ [])) handles)) (sym es) (subst (λ o. All (IsSoundFile (map (event_of (map string_bytes names)) entries)) o) (sym os) h.sound);
+        sound = subst (λ l. All (IsSoundHandle l) (map (open_of (map string_bytes names ++ n ∷ [])) handles)) (sym es) (subst (λ o. All (IsSoundHandle (map (event_of (map string_bytes names)) entries)) o) (sym os) h.sound);
         room = omega (arith, h.room, count-push is_dirty (map cache_of files) no_file);
       })),
       ap (λ x. map (event_of x) entries) more.1 ∙ es,

@@ -12,19 +12,19 @@ use Rattle.pos_edge.specs.declared.doubles.history.Entry.{Entry}
 use Rattle.pos_edge.specs.declared.doubles.history.Handle.{Handle}
 use Rattle.pos_edge.specs.Images.{written}
 use Rattle.pos_edge.specs.Log.{Act, Making, Writing, Syncing, Removing, Event, NameState, state_of, contents_of, bytes_of, acted}
-use Rattle.pos_edge.specs.MemoryDisks.{OpenFile, IsSoundFile, holds, is_there, CanUse}
-use Rattle.pos_edge.specs.Histories.{Cache, no_file, act_of, event_of, open_of, IsKept, Backs, is_live, is_dirty, HoldsTogether, made_file, written_file, synced_file, gone_file}
+use Rattle.pos_edge.specs.MemoryDisks.{OpenFile, IsSoundHandle, holds, is_there, CanUse}
+use Rattle.pos_edge.specs.Histories.{Cache, no_file, act_of, event_of, open_of, IsCached, Backs, is_live, is_dirty, HoldsTogether, made_file, written_file, synced_file, gone_file}
 use Rattle.pos_edge.specs.MemoryLaws.{holds_bytes}
 use Rattle.pos_edge.proofs.Events.{acted_removals, state_of-own, state_of-beside}
 use Rattle.pos_edge.proofs.ScratchFiles.{cases_name}
 use Rattle.pos_edge.proofs.MemoryFrames.{length-written}
-use Rattle.pos_edge.proofs.Kept.{map_get, map-push, map-set_at, IsKept-made, IsKept-written, IsKept-synced, IsKept-gone, kept_there, kept_absent, kept_bytes, Backs-act, count-push, count-set}
+use Rattle.pos_edge.proofs.Kept.{map_get, map-push, map-set_at, IsCached-made, IsCached-written, IsCached-synced, IsCached-gone, kept_there, kept_absent, kept_bytes, Backs-act, count-push, count-set}
 
 -- What an act has to keep, for the FileIds of its name: without a removal nothing becomes shorter.
 abbrev pub KeepsBytes : Act → NameState → Type 0
 KeepsBytes a s = (acted a s).removals ≡ s.removals → (size : ℕ) → holds size (option_map bytes_of s.file) ≡ true → holds size (option_map bytes_of (acted a s).file) ≡ true
 
-sound_act : (n : List ℕ) (log : List Event) (a : Act) (h : OpenFile) → KeepsBytes a (state_of n log) → IsSoundFile log h → IsSoundFile (log ++ record { name = n; act = a } ∷ []) h
+sound_act : (n : List ℕ) (log : List Event) (a : Act) (h : OpenFile) → KeepsBytes a (state_of n log) → IsSoundHandle log h → IsSoundHandle (log ++ record { name = n; act = a } ∷ []) h
 sound_act n log a h keeps s = elim (cases_name n h.name) [
   | inr other ↦ subst (λ (t : NameState). (h.removals ≤ t.removals) × (h.removals ≡ t.removals → holds h.size (option_map bytes_of t.file) ≡ true)) (sym (state_of-beside h.name log (record { name = n; act = a }) other)) s
   | inl own ↦
@@ -56,28 +56,28 @@ module _ (names : List (List ℕ)) (files : List Cache) (entries : List Entry) (
   pub events-push : (i : ℕ) (deed : Deed) → map (event_of names) (entries ++ record { slot = i; deed = deed } ∷ []) ≡ map (event_of names) entries ++ record { name = get_or names i []; act = act_of deed } ∷ []
   events-push i deed = map-push (event_of names) entries (record { slot = i; deed = deed })
 
-  pub kept_at : (i : ℕ) → i < length names → IsKept (state_of (get_or names i []) (map (event_of names) entries)) (get_or files i no_file)
+  pub kept_at : (i : ℕ) → i < length names → IsCached (state_of (get_or names i []) (map (event_of names) entries)) (get_or files i no_file)
   kept_at i hi = h.backs.kept i hi
 
   -- one act, with the FileIds as they then are
   pub HoldsTogether-act : (i : ℕ) (deed : Deed) (c : Cache) (new_handles : List Handle) (new_cap : ℕ) → i < length names
-      → IsKept (acted (act_of deed) (state_of (get_or names i []) (map (event_of names) entries))) c
+      → IsCached (acted (act_of deed) (state_of (get_or names i []) (map (event_of names) entries))) c
       → KeepsBytes (act_of deed) (state_of (get_or names i []) (map (event_of names) entries))
       → All (λ handle. handle.slot < length names) new_handles
-      → (All (IsSoundFile (map (event_of names) entries ++ record { name = get_or names i []; act = act_of deed } ∷ [])) (map (open_of names) handles) → All (IsSoundFile (map (event_of names) entries ++ record { name = get_or names i []; act = act_of deed } ∷ [])) (map (open_of names) new_handles))
+      → (All (IsSoundHandle (map (event_of names) entries ++ record { name = get_or names i []; act = act_of deed } ∷ [])) (map (open_of names) handles) → All (IsSoundHandle (map (event_of names) entries ++ record { name = get_or names i []; act = act_of deed } ∷ [])) (map (open_of names) new_handles))
       → length entries + 1 + (count_by is_live new_handles + count_by is_dirty (set files i c)) ≤ new_cap
       → HoldsTogether names (set files i c) (entries ++ record { slot = i; deed = deed } ∷ []) new_handles new_cap
   HoldsTogether-act i deed c new_handles new_cap hi kept keeps inside sound room = record {
     backs = subst (λ l. Backs names (set files i c) l) (sym (events-push i deed)) (Backs-act names files (map (event_of names) entries) i (act_of deed) c h.backs hi kept);
     entries_in = All-push (λ entry. entry.slot < length names) entries (record { slot = i; deed = deed }) h.entries_in hi;
     handles_in = inside;
-    sound = subst (λ l. All (IsSoundFile l) (map (open_of names) new_handles)) (sym (events-push i deed))
-        (sound (All-weaker (IsSoundFile (map (event_of names) entries)) (IsSoundFile (map (event_of names) entries ++ record { name = get_or names i []; act = act_of deed } ∷ [])) (λ o s. sound_act (get_or names i []) (map (event_of names) entries) (act_of deed) o keeps s) (map (open_of names) handles) h.sound));
+    sound = subst (λ l. All (IsSoundHandle l) (map (open_of names) new_handles)) (sym (events-push i deed))
+        (sound (All-weaker (IsSoundHandle (map (event_of names) entries)) (IsSoundHandle (map (event_of names) entries ++ record { name = get_or names i []; act = act_of deed } ∷ [])) (λ o s. sound_act (get_or names i []) (map (event_of names) entries) (act_of deed) o keeps s) (map (open_of names) handles) h.sound));
     room = omega (arith, length_push entries (record { slot = i; deed = deed }), room);
   }
 
   -- other FileIds, and no event
-  pub HoldsTogether-handles : (new_handles : List Handle) (new_cap : ℕ) → All (λ handle. handle.slot < length names) new_handles → All (IsSoundFile (map (event_of names) entries)) (map (open_of names) new_handles)
+  pub HoldsTogether-handles : (new_handles : List Handle) (new_cap : ℕ) → All (λ handle. handle.slot < length names) new_handles → All (IsSoundHandle (map (event_of names) entries)) (map (open_of names) new_handles)
       → length entries + (count_by is_live new_handles + count_by is_dirty files) ≤ new_cap → HoldsTogether names files entries new_handles new_cap
   HoldsTogether-handles new_handles new_cap inside sound room = record { backs = h.backs; entries_in = h.entries_in; handles_in = inside; sound = sound; room = room }
 
@@ -87,11 +87,11 @@ module _ (names : List (List ℕ)) (files : List Cache) (entries : List Entry) (
   counts : (count_by is_live handles ≤ length handles) × (count_by is_dirty files ≤ length files)
   counts = (count_by-le-length is_live handles, count_by-le-length is_dirty files)
 
-  push_sound : (l : List Event) (new : Handle) → IsSoundFile l (open_of names new) → All (IsSoundFile l) (map (open_of names) handles) → All (IsSoundFile l) (map (open_of names) (handles ++ new ∷ []))
-  push_sound l new s all = subst (All (IsSoundFile l)) (sym (map-push (open_of names) handles new)) (All-push (IsSoundFile l) (map (open_of names) handles) (open_of names new) all s)
+  push_sound : (l : List Event) (new : Handle) → IsSoundHandle l (open_of names new) → All (IsSoundHandle l) (map (open_of names) handles) → All (IsSoundHandle l) (map (open_of names) (handles ++ new ∷ []))
+  push_sound l new s all = subst (All (IsSoundHandle l)) (sym (map-push (open_of names) handles new)) (All-push (IsSoundHandle l) (map (open_of names) handles) (open_of names new) all s)
 
-  set_sound : (l : List Event) (k : ℕ) (new : Handle) → IsSoundFile l (open_of names new) → All (IsSoundFile l) (map (open_of names) handles) → All (IsSoundFile l) (map (open_of names) (set handles k new))
-  set_sound l k new s all = subst (All (IsSoundFile l)) (sym (map-set_at (open_of names) handles k new)) (All-set (IsSoundFile l) (map (open_of names) handles) k (open_of names new) s all)
+  set_sound : (l : List Event) (k : ℕ) (new : Handle) → IsSoundHandle l (open_of names new) → All (IsSoundHandle l) (map (open_of names) handles) → All (IsSoundHandle l) (map (open_of names) (set handles k new))
+  set_sound l k new s all = subst (All (IsSoundHandle l)) (sym (map-set_at (open_of names) handles k new)) (All-set (IsSoundHandle l) (map (open_of names) handles) k (open_of names new) s all)
 
   dirty-before : (i : ℕ) (c : Cache) → i < length names → count_by is_dirty (set files i c) + cond (is_dirty (get_or files i no_file)) 1 0 ≡ count_by is_dirty files + cond (is_dirty c) 1 0
   dirty-before i c hi = count-set is_dirty files i c no_file (omega (arith, h.backs.beside))
@@ -110,7 +110,7 @@ module _ (names : List (List ℕ)) (files : List Cache) (entries : List Entry) (
       let now = state_of-own (get_or names i []) (map (event_of names) entries) Making in
       let d = dirty-before i (made_file c) hi in
       let o = one_or_none (is_dirty c) in
-      HoldsTogether-act i Made (made_file c) (handles ++ new ∷ []) new_cap hi (IsKept-made st c (kept_at i hi)) (keeps-making st (kept_absent st c (kept_at i hi) absent))
+      HoldsTogether-act i Made (made_file c) (handles ++ new ∷ []) new_cap hi (IsCached-made st c (kept_at i hi)) (keeps-making st (kept_absent st c (kept_at i hi) absent))
       (All-push (λ handle. handle.slot < length names) handles new h.handles_in hi)
       (push_sound (map (event_of names) entries ++ record { name = get_or names i []; act = Making } ∷ []) new
       (omega (arith, ap (λ (s : NameState). s.removals) now, (kept_at i hi).removals), λ e. ap (λ (s : NameState). holds 0 (option_map bytes_of s.file)) now))
@@ -174,17 +174,17 @@ module _ (names : List (List ℕ)) (files : List Cache) (entries : List Entry) (
       let was : bit (is_live (get_or handles id handle)) ≡ 1 = ap (λ (x : Handle). bit x.live) (sym read) ∙ ap bit u.live in
       let now : bit (is_live new) ≡ 1 = ap bit u.live in
       let l = length-written at bytes c.bytes (let x = u.size in omega arith) in
-      let kept : IsKept (acted (Writing at bytes) st) (written_file at bytes c) = IsKept-written at bytes st c u.there (kept_at handle.slot u.slot_in) in
+      let kept : IsCached (acted (Writing at bytes) st) (written_file at bytes c) = IsCached-written at bytes st c u.there (kept_at handle.slot u.slot_in) in
       let after : option_map bytes_of (acted (Writing at bytes) st).file ≡ Some (written at bytes c.bytes) = kept_there (acted (Writing at bytes) st) (written_file at bytes c) kept u.there in
       let longer : (size : ℕ) → holds size (option_map bytes_of st.file) ≡ true → holds size (option_map bytes_of (acted (Writing at bytes) st).file) ≡ true = λ size held.
       let b = holds_bytes size (option_map bytes_of st.file) held in
       let same : b.0 ≡ c.bytes = same_Some b.0 c.bytes (sym b.1 ∙ u.contents) in
       ap (holds size) after ∙ le-leb size (length (written at bytes c.bytes)) (omega (arith, b.2, ap length same, l)) in
       HoldsTogether-act handle.slot piece (written_file at bytes c) (set handles id new) new_cap u.slot_in
-      (subst (λ a. IsKept (acted a st) (written_file at bytes c)) (sym is) kept)
+      (subst (λ a. IsCached (acted a st) (written_file at bytes c)) (sym is) kept)
       (subst (λ a. KeepsBytes a st) (sym is) (keeps-writing at bytes st longer))
       (All-set (λ x. x.slot < length names) handles id new u.slot_in h.handles_in)
-      (subst (λ a. All (IsSoundFile (map (event_of names) entries ++ record { name = name; act = a } ∷ [])) (map (open_of names) handles) → All (IsSoundFile (map (event_of names) entries ++ record { name = name; act = a } ∷ [])) (map (open_of names) (set handles id new))) (sym is)
+      (subst (λ a. All (IsSoundHandle (map (event_of names) entries ++ record { name = name; act = a } ∷ [])) (map (open_of names) handles) → All (IsSoundHandle (map (event_of names) entries ++ record { name = name; act = a } ∷ [])) (map (open_of names) (set handles id new))) (sym is)
       (set_sound (map (event_of names) entries ++ record { name = name; act = Writing at bytes } ∷ []) id new (
         let now' = ap (λ (s : NameState). s.removals) (state_of-own name (map (event_of names) entries) (Writing at bytes)) in omega (arith, now', u.removals),
         λ e. ap (λ (s : NameState). holds (max handle.size (at + length bytes)) (option_map bytes_of s.file)) (state_of-own name (map (event_of names) entries) (Writing at bytes))
@@ -202,7 +202,7 @@ module _ (names : List (List ℕ)) (files : List Cache) (entries : List Entry) (
       let d = dirty-before handle.slot (synced_file c) u.slot_in in
       let was : bit (is_dirty c) ≡ 1 = ap (λ b. bit (b && not c.clean)) u.there ∙ ap (λ b. bit (true && not b)) dirty in
       let now : bit (is_dirty (synced_file c)) ≡ 0 = ap (λ b. bit (b && false)) u.there in
-      let kept : IsKept (acted Syncing st) (synced_file c) = IsKept-synced st c u.there (kept_at handle.slot u.slot_in) in
+      let kept : IsCached (acted Syncing st) (synced_file c) = IsCached-synced st c u.there (kept_at handle.slot u.slot_in) in
       let after : option_map bytes_of (acted Syncing st).file ≡ Some c.bytes = kept_there (acted Syncing st) (synced_file c) kept u.there in (
         omega (arith, h.room, d, was, now),
         HoldsTogether-act handle.slot Synced (synced_file c) handles cap u.slot_in kept (λ e size held. ap (holds size) (after ∙ sym u.contents) ∙ held) h.handles_in (λ s. s) (omega (arith, h.room, d, was, now)),
@@ -230,7 +230,7 @@ module _ (names : List (List ℕ)) (files : List Cache) (entries : List Entry) (
       let was : bit (is_live (get_or handles id handle)) ≡ 1 = ap (λ (x : Handle). bit x.live) (sym read) ∙ ap bit u.live in
       let d = dirty-before handle.slot (gone_file c) u.slot_in in (
         omega (arith, h.room, live, was),
-        HoldsTogether-act handle.slot Gone (gone_file c) (set handles id new) cap u.slot_in (IsKept-gone st c (kept_at handle.slot u.slot_in)) (keeps-removing st)
+        HoldsTogether-act handle.slot Gone (gone_file c) (set handles id new) cap u.slot_in (IsCached-gone st c (kept_at handle.slot u.slot_in)) (keeps-removing st)
             (All-set (λ x. x.slot < length names) handles id new u.slot_in h.handles_in)
             (set_sound (map (event_of names) entries ++ record { name = name; act = Removing } ∷ []) id new (
               let now' = ap (λ (s : NameState). s.removals) (state_of-own name (map (event_of names) entries) Removing) in omega (arith, now', u.removals),

@@ -10,7 +10,7 @@ use Rattle.pos_edge.specs.declared.doubles.history.Entry.{Entry}
 use Rattle.pos_edge.specs.declared.doubles.history.Handle.{Handle}
 use Rattle.pos_edge.specs.declared.doubles.history.MemoryFile.{MemoryFile}
 use Rattle.pos_edge.specs.Log.{Making, Writing, Removing, state_of, contents_of}
-use Rattle.pos_edge.specs.MemoryDisks.{OpenFile, HistoryState, CanUse, opened, grown, ended, noted_in, given_in, replaced_in, synced_in, is_clean_name}
+use Rattle.pos_edge.specs.MemoryDisks.{OpenFile, HistoryState, CanUse, opened_file, grown, ended, noted_in, given_in, replaced_in, synced_in, is_clean_name}
 use Rattle.pos_edge.specs.Histories.{Cache, cache_of, no_file, act_of, event_of, open_of, HoldsTogether, made_file, written_file, synced_file, gone_file, KeepsOrAdds}
 use Rattle.pos_edge.proofs.Kept.{map_read, map-set_at, same_history, HoldsTogether-names, removals_le}
 use Rattle.pos_edge.proofs.KeptActs.{IsUsed, HoldsTogether-make, HoldsTogether-open, HoldsTogether-room, HoldsTogether-write, HoldsTogether-sync, HoldsTogether-end, HoldsTogether-remove, used}
@@ -99,11 +99,11 @@ module _ (h₀ : HistoryState) (names : List (String Global)) (files : List Memo
 
   pub make_same : (slot : ℕ) (n : List ℕ) (file : MemoryFile) (new_entries : List Entry) (new_handles : List Handle) → slot < length names → get_or (map string_bytes names) slot [] ≡ n → file ≡ get_or files slot file
       → new_entries ≡ entries ++ record { slot = slot; deed = Made } ∷ [] → new_handles ≡ handles ++ record { live = true; slot = slot; removals = file.removals; size = 0 } ∷ []
-      → stands_for names new_entries new_handles ≡ given_in (opened n 0 h₀.log) (noted_in n Making h₀)
+      → stands_for names new_entries new_handles ≡ given_in (opened_file n 0 h₀.log) (noted_in n Making h₀)
   make_same slot n file new_entries new_handles within named read e f =
-      parts_same (given_in (opened n 0 h₀.log) (noted_in n Making h₀)) names (entries ++ record { slot = slot; deed = Made } ∷ []) new_entries (handles ++ record { live = true; slot = slot; removals = file.removals; size = 0 } ∷ []) new_handles e f
+      parts_same (given_in (opened_file n 0 h₀.log) (noted_in n Making h₀)) names (entries ++ record { slot = slot; deed = Made } ∷ []) new_entries (handles ++ record { live = true; slot = slot; removals = file.removals; size = 0 } ∷ []) new_handles e f
       (made_is (map string_bytes names) (map cache_of files) entries handles cap h slot file.removals n named (removals_at slot n file within named read)
-      ∙ ap (λ (x : HistoryState). given_in (opened n 0 x.log) (noted_in n Making x)) is)
+      ∙ ap (λ (x : HistoryState). given_in (opened_file n 0 x.log) (noted_in n Making x)) is)
 
   -- open
   pub open_holds : (slot : ℕ) (file : MemoryFile) (new_entries : List Entry) (new_handles : List Handle) (new_cap : ℕ) → slot < length names → file ≡ get_or files slot file → file.there ≡ true
@@ -118,11 +118,11 @@ module _ (h₀ : HistoryState) (names : List (String Global)) (files : List Memo
 
   pub open_same : (slot : ℕ) (n : List ℕ) (file : MemoryFile) (new_entries : List Entry) (new_handles : List Handle) → slot < length names → get_or (map string_bytes names) slot [] ≡ n → file ≡ get_or files slot file
       → new_entries ≡ entries → new_handles ≡ handles ++ record { live = true; slot = slot; removals = file.removals; size = length file.bytes.items } ∷ []
-      → stands_for names new_entries new_handles ≡ given_in (opened n (length file.bytes.items) h₀.log) h₀
+      → stands_for names new_entries new_handles ≡ given_in (opened_file n (length file.bytes.items) h₀.log) h₀
   open_same slot n file new_entries new_handles within named read e f =
-      parts_same (given_in (opened n (length file.bytes.items) h₀.log) h₀) names entries new_entries (handles ++ record { live = true; slot = slot; removals = file.removals; size = length file.bytes.items } ∷ []) new_handles e f
+      parts_same (given_in (opened_file n (length file.bytes.items) h₀.log) h₀) names entries new_entries (handles ++ record { live = true; slot = slot; removals = file.removals; size = length file.bytes.items } ∷ []) new_handles e f
       (opened_is (map string_bytes names) (map cache_of files) entries handles cap h slot file.removals (length file.bytes.items) n named (removals_at slot n file within named read)
-      ∙ ap (λ (x : HistoryState). given_in (opened n (length file.bytes.items) x.log) x) is)
+      ∙ ap (λ (x : HistoryState). given_in (opened_file n (length file.bytes.items) x.log) x) is)
 
   -- the calls on a FileId
   pub used_at : (id : ℕ) (file : OpenFile) (handle : Handle) → CanUse h₀ id file → handle ≡ get_or handles id handle → IsUsed (map string_bytes names) (map cache_of files) entries handles cap h id file handle

@@ -17,10 +17,10 @@ use Rattle.pos_edge.specs.declared.doubles.history.Replay.{Replay}
 use Rattle.pos_edge.specs.Images.{written}
 use Rattle.pos_edge.specs.Log.{Making, Writing, Syncing, File, NameState, state_of, contents_of, bytes_of, written_all, acted, happened, never}
 use Rattle.pos_edge.specs.MemoryDisks.{HistoryState, holds, placed_in, image_after}
-use Rattle.pos_edge.specs.Histories.{Cache, cache_of, no_file, act_of, event_of, IsKept, is_live, is_dirty, HoldsTogether, made_file, written_file, synced_file, placed_file, seen_at, IsReplayedFile}
+use Rattle.pos_edge.specs.Histories.{Cache, cache_of, no_file, act_of, event_of, IsCached, is_live, is_dirty, HoldsTogether, made_file, written_file, synced_file, placed_file, seen_at, IsReplayedFile}
 use Rattle.pos_edge.specs.MemoryLaws.{holds_bytes, length-written_ge}
 use Rattle.pos_edge.proofs.Events.{happened-other, happened-own, file_none}
-use Rattle.pos_edge.proofs.Kept.{map-set_at, same_history, IsKept-made, IsKept-written, IsKept-synced, kept_there, kept_absent}
+use Rattle.pos_edge.proofs.Kept.{map-set_at, same_history, IsCached-made, IsCached-written, IsCached-synced, kept_there, kept_absent}
 use Rattle.pos_edge.proofs.KeptActs.{HoldsTogether-act, kept_at, keeps-making, keeps-writing}
 use Rattle.pos_edge.proofs.KeptCalls.{stands_for, HoldsParts, found_there, not_found, cache_at, slot_in}
 
@@ -28,11 +28,11 @@ written-all_new : (bytes : List ℕ) → written 0 bytes [] ≡ bytes
 written-all_new bytes = ap (λ x. bytes ++ x) (drop_all (0 + length bytes) [] (omega arith)) ∙ append-nil bytes
 
 -- a write behind which everything still stands
-longer : (at : ℕ) (piece : List ℕ) (s : NameState) (c : Cache) → c.there ≡ true → IsKept s c → (size : ℕ) → holds size (option_map bytes_of s.file) ≡ true → holds size (option_map bytes_of (acted (Writing at piece) s).file) ≡ true
+longer : (at : ℕ) (piece : List ℕ) (s : NameState) (c : Cache) → c.there ≡ true → IsCached s c → (size : ℕ) → holds size (option_map bytes_of s.file) ≡ true → holds size (option_map bytes_of (acted (Writing at piece) s).file) ≡ true
 longer at piece s c there k size held =
     let b = holds_bytes size (option_map bytes_of s.file) held in
     let same : b.0 ≡ c.bytes = same_Some b.0 c.bytes (sym b.1 ∙ kept_there s c k there) in
-    let after = kept_there (acted (Writing at piece) s) (written_file at piece c) (IsKept-written at piece s c there k) there in
+    let after = kept_there (acted (Writing at piece) s) (written_file at piece c) (IsCached-written at piece s c there k) there in
     let l = length-written_ge at piece c.bytes in
     ap (holds size) after ∙ le-leb size (length (written at piece c.bytes)) (omega (arith, b.2, ap length same, l))
 
@@ -75,29 +75,29 @@ module _ (names : List (List ℕ)) (files : List Cache) (entries : List Entry) (
         st0 = state_of (get_or names i []) (map (event_of names) entries)
 
         first : HoldsTogether names (set files i (made_file (get_or files i no_file))) (entries ++ record { slot = i; deed = Made } ∷ []) handles new_cap
-        first = HoldsTogether-act names files entries handles cap h i Made c1 handles new_cap hi (IsKept-made st0 c0 (kept_at names files entries handles cap h i hi)) (keeps-making st0 (kept_absent st0 c0 (kept_at names files entries handles cap h i hi) absent)) h.handles_in (λ s. s)
+        first = HoldsTogether-act names files entries handles cap h i Made c1 handles new_cap hi (IsCached-made st0 c0 (kept_at names files entries handles cap h i hi)) (keeps-making st0 (kept_absent st0 c0 (kept_at names files entries handles cap h i hi) absent)) h.handles_in (λ s. s)
             (omega (arith, room, few i c1, live_few))
 
         st1 : NameState
         st1 = state_of (get_or names i []) (map (event_of names) (entries ++ record { slot = i; deed = Made } ∷ []))
 
-        kept1 : IsKept (state_of (get_or names i []) (map (event_of names) (entries ++ record { slot = i; deed = Made } ∷ []))) (made_file (get_or files i no_file))
-        kept1 = subst (IsKept st1) (at_new i c1 hi) (kept_at names (set files i c1) e1 handles new_cap first i hi)
+        kept1 : IsCached (state_of (get_or names i []) (map (event_of names) (entries ++ record { slot = i; deed = Made } ∷ []))) (made_file (get_or files i no_file))
+        kept1 = subst (IsCached st1) (at_new i c1 hi) (kept_at names (set files i c1) e1 handles new_cap first i hi)
 
         second : HoldsTogether names (set (set files i (made_file (get_or files i no_file))) i (written_file 0 bytes (made_file (get_or files i no_file)))) ((entries ++ record { slot = i; deed = Made } ∷ []) ++ record { slot = i; deed = kept } ∷ []) handles new_cap
-        second = HoldsTogether-act names (set files i c1) e1 handles new_cap first i kept c2 handles new_cap hi (subst (λ a. IsKept (acted a st1) c2) (sym act) (IsKept-written 0 bytes st1 c1 refl kept1))
+        second = HoldsTogether-act names (set files i c1) e1 handles new_cap first i kept c2 handles new_cap hi (subst (λ a. IsCached (acted a st1) c2) (sym act) (IsCached-written 0 bytes st1 c1 refl kept1))
             (subst (λ a. (acted a st1).removals ≡ st1.removals → (size : ℕ) → holds size (option_map bytes_of st1.file) ≡ true → holds size (option_map bytes_of (acted a st1).file) ≡ true) (sym act) (keeps-writing 0 bytes st1 (longer 0 bytes st1 c1 refl kept1)))
             h.handles_in (λ s. s) (let n = count_by-le-length is_dirty (set (set files i c1) i c2) in omega (arith, room, n, length-set (set files i c1) i c2, length-set files i c1, live_few, length_push entries (record { slot = i; deed = Made })))
 
         st2 : NameState
         st2 = state_of (get_or names i []) (map (event_of names) ((entries ++ record { slot = i; deed = Made } ∷ []) ++ record { slot = i; deed = kept } ∷ []))
 
-        kept2 : IsKept (state_of (get_or names i []) (map (event_of names) ((entries ++ record { slot = i; deed = Made } ∷ []) ++ record { slot = i; deed = kept } ∷ []))) (written_file 0 bytes (made_file (get_or files i no_file)))
-        kept2 = subst (IsKept st2) (get_or-set_same (set files i c1) i c2 no_file (omega (arith, h.backs.beside, length-set files i c1))) (kept_at names (set (set files i c1) i c2) e2 handles new_cap second i hi)
+        kept2 : IsCached (state_of (get_or names i []) (map (event_of names) ((entries ++ record { slot = i; deed = Made } ∷ []) ++ record { slot = i; deed = kept } ∷ []))) (written_file 0 bytes (made_file (get_or files i no_file)))
+        kept2 = subst (IsCached st2) (get_or-set_same (set files i c1) i c2 no_file (omega (arith, h.backs.beside, length-set files i c1))) (kept_at names (set (set files i c1) i c2) e2 handles new_cap second i hi)
 
         third : HoldsTogether names (set (set (set files i (made_file (get_or files i no_file))) i (written_file 0 bytes (made_file (get_or files i no_file)))) i (synced_file (written_file 0 bytes (made_file (get_or files i no_file))))) (((entries ++ record { slot = i; deed = Made } ∷ []) ++ record { slot = i; deed = kept } ∷ []) ++ record { slot = i; deed = Synced } ∷ []) handles new_cap
-        third = HoldsTogether-act names (set (set files i c1) i c2) e2 handles new_cap second i Synced c3 handles new_cap hi (IsKept-synced st2 c2 refl kept2)
-            (λ e size held. ap (holds size) (kept_there (acted Syncing st2) c3 (IsKept-synced st2 c2 refl kept2) refl ∙ sym (kept_there st2 c2 kept2 refl)) ∙ held)
+        third = HoldsTogether-act names (set (set files i c1) i c2) e2 handles new_cap second i Synced c3 handles new_cap hi (IsCached-synced st2 c2 refl kept2)
+            (λ e size held. ap (holds size) (kept_there (acted Syncing st2) c3 (IsCached-synced st2 c2 refl kept2) refl ∙ sym (kept_there st2 c2 kept2 refl)) ∙ held)
             h.handles_in (λ s. s) (let n = count_by-le-length is_dirty (set (set (set files i c1) i c2) i c3) in
             omega (arith, room, n, length-set (set (set files i c1) i c2) i c3, length-set (set files i c1) i c2, length-set files i c1, live_few, length_push entries (record { slot = i; deed = Made }), length_push e1 (record { slot = i; deed = kept })))
 

@@ -9,8 +9,8 @@ use Rattle.pos_edge.specs.declared.doubles.history.Deed.TheVariants.{Made, Synce
 use Rattle.pos_edge.specs.declared.doubles.history.Entry.{Entry}
 use Rattle.pos_edge.specs.declared.doubles.history.Handle.{Handle}
 use Rattle.pos_edge.specs.Log.{Making, Writing, Syncing, Removing, File, NameState, state_of, contents_of, bytes_of, is_clean}
-use Rattle.pos_edge.specs.MemoryDisks.{OpenFile, HistoryState, MakeGives, FindGives, opened, grown, ended, noted_in, given_in, replaced_in, synced_in, is_clean_name}
-use Rattle.pos_edge.specs.Histories.{Cache, no_file, act_of, event_of, open_of, IsKept, IsKeptFile, HoldsTogether}
+use Rattle.pos_edge.specs.MemoryDisks.{OpenFile, HistoryState, MakeGives, FindGives, opened_file, grown, ended, noted_in, given_in, replaced_in, synced_in, is_clean_name}
+use Rattle.pos_edge.specs.Histories.{Cache, no_file, act_of, event_of, open_of, IsCached, IsCachedFile, HoldsTogether}
 use Rattle.pos_edge.proofs.Kept.{map-push, map-set_at, same_history, kept_there, kept_absent, unknown_name}
 use Rattle.pos_edge.proofs.KeptActs.{events-push, kept_at}
 
@@ -27,12 +27,12 @@ module _ (names : List (List ℕ)) (files : List Cache) (entries : List Entry) (
   pub slot_there : (slot : ℕ) (name : List ℕ) (c : Cache) → slot < length names → get_or names slot [] ≡ name → get_or files slot no_file ≡ c → c.there ≡ true → contents_of name (map (event_of names) entries) ≡ Some c.bytes
   slot_there slot name c within is at there =
       subst (λ n. contents_of n (map (event_of names) entries) ≡ Some c.bytes) is
-      (kept_there (state_of (get_or names slot []) (map (event_of names) entries)) c (subst (IsKept (state_of (get_or names slot []) (map (event_of names) entries))) at (kept_at names files entries handles cap h slot within)) there)
+      (kept_there (state_of (get_or names slot []) (map (event_of names) entries)) c (subst (IsCached (state_of (get_or names slot []) (map (event_of names) entries))) at (kept_at names files entries handles cap h slot within)) there)
 
   pub slot_absent : (slot : ℕ) (name : List ℕ) (c : Cache) → slot < length names → get_or names slot [] ≡ name → get_or files slot no_file ≡ c → c.there ≡ false → contents_of name (map (event_of names) entries) ≡ None
   slot_absent slot name c within is at there =
       subst (λ n. contents_of n (map (event_of names) entries) ≡ None) is
-      (kept_absent (state_of (get_or names slot []) (map (event_of names) entries)) c (subst (IsKept (state_of (get_or names slot []) (map (event_of names) entries))) at (kept_at names files entries handles cap h slot within)) there)
+      (kept_absent (state_of (get_or names slot []) (map (event_of names) entries)) c (subst (IsCached (state_of (get_or names slot []) (map (event_of names) entries))) at (kept_at names files entries handles cap h slot within)) there)
 
   pub no_slot : (name : List ℕ) → ((i : ℕ) → i < length names → get_or names i [] ≡ name → ⊥) → contents_of name (map (event_of names) entries) ≡ None
   no_slot name new = ap (λ (s : NameState). option_map bytes_of s.file) (unknown_name names files (map (event_of names) entries) name h.backs new)
@@ -43,7 +43,7 @@ module _ (names : List (List ℕ)) (files : List Cache) (entries : List Entry) (
       (sym ((kept_at names files entries handles cap h slot within).removals ∙ ap (λ (x : Cache). x.removals) at))
 
   given_is : (slot removals size : ℕ) (name : List ℕ) → get_or names slot [] ≡ name → removals ≡ (state_of name (map (event_of names) entries)).removals
-      → map (open_of names) (handles ++ record { live = true; slot = slot; removals = removals; size = size } ∷ []) ≡ map (open_of names) handles ++ opened name size (map (event_of names) entries) ∷ []
+      → map (open_of names) (handles ++ record { live = true; slot = slot; removals = removals; size = size } ∷ []) ≡ map (open_of names) handles ++ opened_file name size (map (event_of names) entries) ∷ []
   given_is slot removals size name is r =
       map-push (open_of names) handles (record { live = true; slot = slot; removals = removals; size = size })
       ∙ ap (λ (o : OpenFile). map (open_of names) handles ++ o ∷ []) (ap (λ n. let x : OpenFile = record { live = true; name = n; removals = removals; size = size } in x) is ∙ ap (λ k. let x : OpenFile = record { live = true; name = name; removals = k; size = size } in x) r)
@@ -54,12 +54,12 @@ module _ (names : List (List ℕ)) (files : List Cache) (entries : List Entry) (
 
   pub made_is : (slot removals : ℕ) (name : List ℕ) → get_or names slot [] ≡ name → removals ≡ (state_of name (map (event_of names) entries)).removals
       → ◌≡◌ {A = HistoryState} (record { log = map (event_of names) (entries ++ record { slot = slot; deed = Made } ∷ []); open_files = map (open_of names) (handles ++ record { live = true; slot = slot; removals = removals; size = 0 } ∷ []) })
-      (given_in (opened name 0 (map (event_of names) entries)) (noted_in name Making (record { log = map (event_of names) entries; open_files = map (open_of names) handles })))
+      (given_in (opened_file name 0 (map (event_of names) entries)) (noted_in name Making (record { log = map (event_of names) entries; open_files = map (open_of names) handles })))
   made_is slot removals name is r = same_history _ _ _ _ (noted_is slot Made name is) (given_is slot removals 0 name is r)
 
   pub opened_is : (slot removals size : ℕ) (name : List ℕ) → get_or names slot [] ≡ name → removals ≡ (state_of name (map (event_of names) entries)).removals
       → ◌≡◌ {A = HistoryState} (record { log = map (event_of names) entries; open_files = map (open_of names) (handles ++ record { live = true; slot = slot; removals = removals; size = size } ∷ []) })
-      (given_in (opened name size (map (event_of names) entries)) (record { log = map (event_of names) entries; open_files = map (open_of names) handles }))
+      (given_in (opened_file name size (map (event_of names) entries)) (record { log = map (event_of names) entries; open_files = map (open_of names) handles }))
   opened_is slot removals size name is r = same_history _ _ _ _ refl (given_is slot removals size name is r)
 
   set_is : (id : ℕ) (x : Handle) (o : OpenFile) → open_of names x ≡ o → map (open_of names) (set handles id x) ≡ set (map (open_of names) handles) id o
@@ -82,7 +82,7 @@ module _ (names : List (List ℕ)) (files : List Cache) (entries : List Entry) (
       (replaced_in id (ended file) (noted_in file.name Removing (record { log = map (event_of names) entries; open_files = map (open_of names) handles })))
   removed_is id file x is = same_history _ _ _ _ (noted_is x.slot Gone file.name (sym (ap (λ (o : OpenFile). o.name) is))) (set_is id (record { live = false; slot = x.slot; removals = x.removals; size = x.size }) (ended file) (ap ended (sym is)))
 
-  clean_file : (o : Option File) (c : Cache) → IsKeptFile o c → c.there ≡ true → option_map_or is_clean o true ≡ c.clean
+  clean_file : (o : Option File) (c : Cache) → IsCachedFile o c → c.there ≡ true → option_map_or is_clean o true ≡ c.clean
   clean_file None c k t = absurd (false≢true (sym k ∙ t))
   clean_file (Some f) c k t = k.2
 

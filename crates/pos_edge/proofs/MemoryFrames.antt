@@ -9,7 +9,7 @@ use Rattle.std.proofs.lemmas.Option.{same_Some}
 use Rattle.pos_edge.specs.Frame.{ChangesOnly, KeepsIds, IsUntouched, Nothing, NameOf}
 use Rattle.pos_edge.specs.Images.{written, IsOutsideRange, Torn, Tears, Stays, MayVanish, IsAbsentOrEmpty, ImagesBy}
 use Rattle.pos_edge.specs.Log.{Act, Event, File, NameState, state_of, contents_of, bytes_of, written_all, with_write, as_synced, acted, is_clean, IsImage, MayLeave}
-use Rattle.pos_edge.specs.MemoryDisks.{DiskState, memory_view, live_of, size_in, name_in, IsSound, image_after}
+use Rattle.pos_edge.specs.MemoryDisks.{DiskState, memory_view, live_of, size_in, live_name, IsSoundDisk, image_after}
 use Rattle.pos_edge.specs.MemoryLaws.{written-outside, length-written_all_ge, written_all-outside, image_now}
 use Rattle.pos_edge.proofs.Events.{state_of-beside, state_of-own, take_before, take_end, take_moments, name_kept, sound_at}
 
@@ -31,7 +31,7 @@ still_frame names ids old new same faults reads files = record {
   tells_images = refl;
   live = λ f l k. ap live_of (files f l k) ∙ l;
   size = λ f l k. ap size_in (files f l k);
-  name = λ f l k e. ap (λ o. name_in new.log o) (files f l k) ∙ ap (λ l. name_in l (slice_get old.open_files f)) same;
+  name = λ f l k e. ap (λ o. live_name new.log o) (files f l k) ∙ ap (λ l. live_name l (slice_get old.open_files f)) same;
   contents = λ n k. ap (contents_of n) same;
   images = λ n t i k from to.
       let end : length new.log ≡ length old.log = ap length same in
@@ -42,7 +42,7 @@ still_frame names ids old new same faults reads files = record {
 pub still_ids : (but : ℕ → Type 0) (old new : DiskState) → new.log ≡ old.log → ((f : ℕ) → (but f → ⊥) → slice_get new.open_files f ≡ slice_get old.open_files f) → KeepsIds but (memory_view old) (memory_view new)
 still_ids but old new same files = record {
   live = λ f k. ap live_of (files f k);
-  name = λ f k. ap (λ o. name_in new.log o) (files f k) ∙ ap (λ l. name_in l (slice_get old.open_files f)) same;
+  name = λ f k. ap (λ o. live_name new.log o) (files f k) ∙ ap (λ l. live_name l (slice_get old.open_files f)) same;
 }
 
 pub still_untouched : (old new : DiskState) → new.log ≡ old.log → new.open_files ≡ old.open_files → new.faults ≡ old.faults → old.reads ≤ new.reads → IsUntouched (memory_view old) (memory_view new)
@@ -54,7 +54,7 @@ still_untouched old new same files faults reads = record {
 
 -- one event, under a name that may change
 pub noted_frame : (names : List ℕ → Type 0) (ids : ℕ → Type 0) (old new : DiskState) (e : Event) → new.log ≡ old.log ++ e ∷ [] → old.faults ≤ new.faults → old.reads ≤ new.reads
-    → IsSound old → names e.name → SameFiles ids old new → ChangesOnly names ids (memory_view old) (memory_view new)
+    → IsSoundDisk old → names e.name → SameFiles ids old new → ChangesOnly names ids (memory_view old) (memory_view new)
 noted_frame names ids old new e more faults reads sound named files = record {
   faults = faults;
   reads = reads;
@@ -63,7 +63,7 @@ noted_frame names ids old new e more faults reads sound named files = record {
   tells_images = refl;
   live = λ f l k. ap live_of (files f l k) ∙ l;
   size = λ f l k. ap size_in (files f l k);
-  name = λ f l k apart. ap (λ o. name_in new.log o) (files f l k) ∙ (ap (λ l. name_in l (slice_get old.open_files f)) more
+  name = λ f l k apart. ap (λ o. live_name new.log o) (files f l k) ∙ (ap (λ l. live_name l (slice_get old.open_files f)) more
       ∙ name_kept old.log e (slice_get old.open_files f) (λ h is. sound_at old f h sound is) l (λ is. apart e.name is named));
   contents = λ n k. ap (contents_of n) more ∙ ap (λ (s : NameState). option_map bytes_of s.file) (beside n k);
   images = λ n t i k from to.

@@ -12,10 +12,10 @@ use Rattle.pos_edge.specs.Frame.{ChangesOnly, ChangesFile, KeepsIds, SameFaults,
 use Rattle.pos_edge.specs.Images.{written, Tears, Stays, MayVanish, ImagesBy}
 use Rattle.pos_edge.specs.Calls.{IsThere, AreBytesAt, IsWritten, IsHalfWritten, SameContents, IsSynced, Ends, IsGone, IsAsItWasOrGone}
 use Rattle.pos_edge.specs.Log.{Writing, Syncing, Removing, Event, File, NameState, state_of, contents_of, bytes_of, with_write, as_synced, acted, is_clean, IsImage}
-use Rattle.pos_edge.specs.MemoryDisks.{DiskState, OpenFile, memory_view, live_of, size_in, name_in, holds, is_there, is_clean_name, IsSound, IsSoundFile, ReadGives, WriteGives, SyncGives, RemoveGives, passed, failed, has_read, noted, replaced, ended, grown, CanUse, history_in}
+use Rattle.pos_edge.specs.MemoryDisks.{DiskState, OpenFile, memory_view, live_of, size_in, live_name, holds, is_there, is_clean_name, IsSoundDisk, IsSoundHandle, ReadGives, WriteGives, SyncGives, RemoveGives, passed, failed, has_read, noted, replaced, ended, grown, CanUse, history_in}
 use Rattle.pos_edge.specs.MemoryLaws.{holds_bytes, length-written_ge}
 use Rattle.pos_edge.proofs.ScratchFiles.{cases_name}
-use Rattle.pos_edge.proofs.Events.{state_of-own, state_of-beside, slice_get-set_same, slice_get-set_other, sound_at, name_kept_any, name_kept_act, name_kept_or_gone, name_in-there, there_is, file_some}
+use Rattle.pos_edge.proofs.Events.{state_of-own, state_of-beside, slice_get-set_same, slice_get-set_other, sound_at, name_kept_any, name_kept_act, name_kept_or_gone, live_name-there, there_is, file_some}
 use Rattle.pos_edge.proofs.MemoryFrames.{SameFiles, still_frame, still_ids, still_untouched, still_images, noted_frame, noted_images_by, image_from_clock, Tears-same, Stays-same, MayVanish-same, write_step, sync_step, remove_step, clean_image, length-written, bytes_of-with_write}
 use Rattle.pos_edge.proofs.MemoryCalls.{counted_ge, Rose-counted}
 
@@ -24,13 +24,13 @@ pub record IsUsable (d : DiskState) (f : ℕ) (h : OpenFile) : Type 0 where
   pub at : slice_get d.open_files f ≡ Some h
   pub live : h.live ≡ true
   pub there : is_there h d.log ≡ true
-  pub sound : IsSound d
+  pub sound : IsSoundDisk d
 
 some_at : (o : Option OpenFile) → live_of o ≡ true → (h : OpenFile) × (o ≡ Some h)
 some_at None e = absurd (false≢true e)
 some_at (Some h) e = (h, refl)
 
-name_some : (log : List Event) (h : OpenFile) → IsSome (name_in log (Some h)) → is_there h log ≡ true
+name_some : (log : List Event) (h : OpenFile) → IsSome (live_name log (Some h)) → is_there h log ≡ true
 name_some log h named = elim (cases_Bool (is_there h log)) [
   | inl t ↦ t
   | inr f ↦ absurd (false≢true (sym (ap is_some (cond-false (is_there h log) (Some h.name) None f)) ∙ named))
@@ -44,18 +44,18 @@ can_use d f live there =
       record {
         at = s.1;
         live = sym (ap live_of s.1) ∙ live;
-        there = name_some d.log s.0 (sym (ap (λ o. is_some (name_in d.log o)) s.1) ∙ there refl);
+        there = name_some d.log s.0 (sym (ap (λ o. is_some (live_name d.log o)) s.1) ∙ there refl);
       },
       ap size_in s.1,
     )
 
-pub usable : (d : DiskState) (f : ℕ) (h : OpenFile) → IsSound d → CanUse (history_in d) f h → IsUsable d f h
+pub usable : (d : DiskState) (f : ℕ) (h : OpenFile) → IsSoundDisk d → CanUse (history_in d) f h → IsUsable d f h
 usable d f h sound can = record { at = can.at; live = can.live; there = can.there; sound = sound }
 
 module _ (d : DiskState) (f : ℕ) (h : OpenFile) (use' : IsUsable d f h) where
   -- the name, the file and the bytes behind it
   pub named : NameOf f (memory_view d) h.name
-  named = ap (λ o. name_in d.log o) use'.at ∙ name_in-there h d.log use'.there
+  named = ap (λ o. live_name d.log o) use'.at ∙ live_name-there h d.log use'.there
 
   held : holds h.size (contents_of h.name d.log) ≡ true
   held = (and_parts (h.live && ((state_of h.name d.log).removals == h.removals)) (holds h.size (contents_of h.name d.log)) use'.there).1
@@ -72,7 +72,7 @@ module _ (d : DiskState) (f : ℕ) (h : OpenFile) (use' : IsUsable d f h) where
   only_name : (n : List ℕ) → NameOf f (memory_view d) n → h.name ≡ n
   only_name n is = same_Some h.name n (sym named ∙ is)
 
-  sound_of : (g : ℕ) (k : OpenFile) → slice_get d.open_files g ≡ Some k → IsSoundFile d.log k
+  sound_of : (g : ℕ) (k : OpenFile) → slice_get d.open_files g ≡ Some k → IsSoundHandle d.log k
   sound_of g k e = sound_at d g k use'.sound e
 
   set_same : (k : OpenFile) → slice_get (set d.open_files f k) f ≡ Some k
@@ -127,11 +127,11 @@ module _ (d : DiskState) (f : ℕ) (h : OpenFile) (use' : IsUsable d f h) where
       let fits : size ≤ length (written at piece bytes_there.0) = omega (arith, ap length same, b.2, l) in
       ap (holds size) (ap (λ (s : NameState). option_map bytes_of s.file) (sym (state_of-own h.name d.log (Writing at piece))) ∙ writes_to at piece) ∙ le-leb size (length (written at piece bytes_there.0)) fits
 
-  grown_name : (at : ℕ) (piece : List ℕ) → at ≤ h.size → name_in (d.log ++ record { name = h.name; act = Writing at piece } ∷ []) (Some (grown (at + length piece) h)) ≡ Some h.name
+  grown_name : (at : ℕ) (piece : List ℕ) → at ≤ h.size → live_name (d.log ++ record { name = h.name; act = Writing at piece } ∷ []) (Some (grown (at + length piece) h)) ≡ Some h.name
   grown_name at piece within =
       let b = bytes_there in
       let e = length-written at piece b.0 (omega (arith, b.2)) in
-      name_in-there (grown (at + length piece) h) (d.log ++ record { name = h.name; act = Writing at piece } ∷ [])
+      live_name-there (grown (at + length piece) h) (d.log ++ record { name = h.name; act = Writing at piece } ∷ [])
       (there_is (grown (at + length piece) h) (d.log ++ record { name = h.name; act = Writing at piece } ∷ []) use'.live
       (ap (λ (s : NameState). s.removals) (state_of-own h.name d.log (Writing at piece)) ∙ current)
       (ap (holds (max h.size (at + length piece))) (writes_to at piece) ∙ le-leb (max h.size (at + length piece)) (length (written at piece b.0)) (omega (arith, e, b.2))))
@@ -140,7 +140,7 @@ module _ (d : DiskState) (f : ℕ) (h : OpenFile) (use' : IsUsable d f h) where
   write_kept at piece (Ok t) new within g = subst (λ (x : DiskState). ChangesFile f (memory_view d) (memory_view x)) (sym g.1) (record {
     frame = noted_frame (NameOf f (memory_view d)) (Just f) d (replaced f (grown (at + length piece) h) (noted h.name (Writing at piece) (passed d))) (record { name = h.name; act = Writing at piece }) refl (omega arith) (omega arith) use'.sound named (set_others (grown (at + length piece) h) (replaced f (grown (at + length piece) h) (noted h.name (Writing at piece) (passed d))) refl);
     live = ap live_of (set_same (grown (at + length piece) h)) ∙ use'.live;
-    name = ap (λ o. name_in (d.log ++ record { name = h.name; act = Writing at piece } ∷ []) o) (set_same (grown (at + length piece) h)) ∙ (grown_name at piece within ∙ sym named);
+    name = ap (λ o. live_name (d.log ++ record { name = h.name; act = Writing at piece } ∷ []) o) (set_same (grown (at + length piece) h)) ∙ (grown_name at piece within ∙ sym named);
     grows = let a = ap size_in (set_same (grown (at + length piece) h)) in let b = ap size_in use'.at in omega (arith, a, b);
   })
   write_kept at piece (Err WriteFailed) new within g = subst (λ (x : DiskState). ChangesFile f (memory_view d) (memory_view x)) (sym g.1) (record {
@@ -168,9 +168,9 @@ module _ (d : DiskState) (f : ℕ) (h : OpenFile) (use' : IsUsable d f h) where
       | inr other ↦ ap live_of (slice_get-set_other d.open_files f g (grown (at + length piece) h) other)
     ];
     name = λ g k. elim (cases_eq g f) [
-      | inl same ↦ subst (λ x. name_in log (slice_get (set d.open_files f (grown (at + length piece) h)) x) ≡ name_in d.log (slice_get d.open_files x)) (sym same)
-          (ap (λ o. name_in log o) (set_same (grown (at + length piece) h)) ∙ (grown_name at piece within ∙ sym named))
-      | inr other ↦ ap (λ o. name_in log o) (slice_get-set_other d.open_files f g (grown (at + length piece) h) other)
+      | inl same ↦ subst (λ x. live_name log (slice_get (set d.open_files f (grown (at + length piece) h)) x) ≡ live_name d.log (slice_get d.open_files x)) (sym same)
+          (ap (λ o. live_name log o) (set_same (grown (at + length piece) h)) ∙ (grown_name at piece within ∙ sym named))
+      | inr other ↦ ap (λ o. live_name log o) (slice_get-set_other d.open_files f g (grown (at + length piece) h) other)
           ∙ name_kept_act h.name d.log (Writing at piece) (slice_get d.open_files g) (λ k e. sound_of g k e) refl (longer at piece)
     ];
   } where
@@ -228,7 +228,7 @@ module _ (d : DiskState) (f : ℕ) (h : OpenFile) (use' : IsUsable d f h) where
   synced_contents : contents_of h.name (d.log ++ record { name = h.name; act = Syncing } ∷ []) ≡ contents_of h.name d.log
   synced_contents = ap (option_map bytes_of) synced_file ∙ sym (ap (option_map bytes_of) file_there.1)
 
-  synced_name : (g : ℕ) → name_in (d.log ++ record { name = h.name; act = Syncing } ∷ []) (slice_get d.open_files g) ≡ name_in d.log (slice_get d.open_files g)
+  synced_name : (g : ℕ) → live_name (d.log ++ record { name = h.name; act = Syncing } ∷ []) (slice_get d.open_files g) ≡ live_name d.log (slice_get d.open_files g)
   synced_name g = name_kept_act h.name d.log Syncing (slice_get d.open_files g) (λ k e. sound_of g k e) refl
       (λ size e. ap (holds size) (ap (λ (s : NameState). option_map bytes_of s.file) (sym (state_of-own h.name d.log Syncing)) ∙ synced_contents) ∙ e)
 
@@ -300,18 +300,18 @@ module _ (d : DiskState) (f : ℕ) (h : OpenFile) (use' : IsUsable d f h) where
   remove_ends (Ok t) new g = subst (λ (x : DiskState). Ends f (memory_view d) (memory_view x)) (sym g.1) (record {
     ended = ap live_of (set_same (ended h));
     others = λ o other. ap live_of (slice_get-set_other d.open_files f o (ended h) other);
-    names = λ o other apart. ap (λ x. name_in (d.log ++ record { name = h.name; act = Removing } ∷ []) x) (slice_get-set_other d.open_files f o (ended h) other)
+    names = λ o other apart. ap (λ x. live_name (d.log ++ record { name = h.name; act = Removing } ∷ []) x) (slice_get-set_other d.open_files f o (ended h) other)
         ∙ name_kept_any d.log (record { name = h.name; act = Removing }) (slice_get d.open_files o) (λ k e. sound_of o k e) (λ is. apart h.name is named);
     kept_or_none = λ o other. elim (name_kept_or_gone h.name d.log (slice_get d.open_files o) (λ k e. sound_of o k e)) [
-      | inl same ↦ inl (ap (λ x. name_in (d.log ++ record { name = h.name; act = Removing } ∷ []) x) (slice_get-set_other d.open_files f o (ended h) other) ∙ same)
-      | inr none ↦ inr (ap (λ x. name_in (d.log ++ record { name = h.name; act = Removing } ∷ []) x) (slice_get-set_other d.open_files f o (ended h) other) ∙ none)
+      | inl same ↦ inl (ap (λ x. live_name (d.log ++ record { name = h.name; act = Removing } ∷ []) x) (slice_get-set_other d.open_files f o (ended h) other) ∙ same)
+      | inr none ↦ inr (ap (λ x. live_name (d.log ++ record { name = h.name; act = Removing } ∷ []) x) (slice_get-set_other d.open_files f o (ended h) other) ∙ none)
     ];
   })
   remove_ends (Err e) new g = subst (λ (x : DiskState). Ends f (memory_view d) (memory_view x)) (sym g.1) (record {
     ended = ap live_of (set_same (ended h));
     others = λ o other. ap live_of (slice_get-set_other d.open_files f o (ended h) other);
-    names = λ o other apart. ap (λ x. name_in d.log x) (slice_get-set_other d.open_files f o (ended h) other);
-    kept_or_none = λ o other. inl (ap (λ x. name_in d.log x) (slice_get-set_other d.open_files f o (ended h) other));
+    names = λ o other apart. ap (λ x. live_name d.log x) (slice_get-set_other d.open_files f o (ended h) other);
+    kept_or_none = λ o other. inl (ap (λ x. live_name d.log x) (slice_get-set_other d.open_files f o (ended h) other));
   })
 
   pub remove_images : (r : Result (Unit {0}) DiskFailed) (new : DiskState) → RemoveGives d f h r new → ImagesBy MayVanish f (memory_view d) (memory_view new)
@@ -339,7 +339,7 @@ module _ (d : DiskState) (f : ℕ) (h : OpenFile) (use' : IsUsable d f h) where
   pub remove_left : (r : Result (Unit {0}) DiskFailed) (new : DiskState) → RemoveGives d f h r new → IsAsItWasOrGone f (memory_view d) (memory_view new)
   remove_left (Ok t) new g = subst (λ (x : DiskState). IsAsItWasOrGone f (memory_view d) (memory_view x)) (sym g.1) (λ n is. inr (gone_made n is))
   remove_left (Err e) new g = subst (λ (x : DiskState). IsAsItWasOrGone f (memory_view d) (memory_view x)) (sym g.1)
-      (λ n is. inl (refl, λ o other. ap (λ x. name_in d.log x) (slice_get-set_other d.open_files f o (ended h) other)))
+      (λ n is. inl (refl, λ o other. ap (λ x. live_name d.log x) (slice_get-set_other d.open_files f o (ended h) other)))
 
   pub write_quiet : (at : ℕ) (piece : List ℕ) (r : Result (Unit {0}) WriteFault) (new : DiskState) → WriteGives d f h at piece r new → SameFaultsBut WriteFailed r (memory_view d) (memory_view new)
   write_quiet at piece (Ok t) new g = ap (λ (x : DiskState). x.faults) g.1

@@ -6,8 +6,8 @@ use Rattle.pos_edge.specs.BlankDisks.{BlankName}
 abbrev pub name_of : BlankFile → BlankName
 name_of file = record { name = string_bytes file.name; there = file.there; length = file.length }
 
-abbrev pub names_of : List BlankFile → List BlankName
-names_of files = map name_of files
+abbrev pub blank_names : List BlankFile → List BlankName
+blank_names files = map name_of files
 
 -- the file at this place is there and has this name
 abbrev pub IsThereAt : List BlankName → ℕ → List ℕ → Type 0

@@ -11,7 +11,7 @@ use Rattle.std.specs.declared.string.String.{String}
 use Rattle.std.specs.declared.alloc.Global.{Global}
 use Rattle.pos_edge.specs.Images.{written}
 use Rattle.pos_edge.specs.Log.{Act, Making, Writing, Syncing, Removing, Event, File, NameState, state_of, bytes_of, written_all, acted, is_clean}
-use Rattle.pos_edge.specs.MemoryDisks.{OpenFile, IsSoundFile, HistoryState}
+use Rattle.pos_edge.specs.MemoryDisks.{OpenFile, IsSoundHandle, HistoryState}
 
 -- a file as it is kept: whether it is there, whether it needs no sync, its bytes, and how often its name was removed
 pub record Cache : Type 0 where
@@ -38,27 +38,27 @@ event_of names entry = record { name = get_or names entry.slot []; act = act_of 
 abbrev pub open_of : List (List ℕ) → Handle → OpenFile
 open_of names handle = record { live = handle.live; name = get_or names handle.slot []; removals = handle.removals; size = handle.size }
 
-abbrev pub names_of : Inside → List (List ℕ)
-names_of inside = map string_bytes inside.names.items
+abbrev pub inside_names : Inside → List (List ℕ)
+inside_names inside = map string_bytes inside.names.items
 
 abbrev pub history_of : Inside → HistoryState
-history_of inside = record { log = map (event_of (names_of inside)) inside.log.items; open_files = map (open_of (names_of inside)) inside.handles.items }
+history_of inside = record { log = map (event_of (inside_names inside)) inside.log.items; open_files = map (open_of (inside_names inside)) inside.handles.items }
 
 -- a name's state in the history is what is kept of it
-abbrev pub IsKeptFile : Option File → Cache → Type 0
-IsKeptFile None cache = cache.there ≡ false
-IsKeptFile (Some file) cache = (cache.there ≡ true) × (bytes_of file ≡ cache.bytes) × (is_clean file ≡ cache.clean)
+abbrev pub IsCachedFile : Option File → Cache → Type 0
+IsCachedFile None cache = cache.there ≡ false
+IsCachedFile (Some file) cache = (cache.there ≡ true) × (bytes_of file ≡ cache.bytes) × (is_clean file ≡ cache.clean)
 
-pub record IsKept (state : NameState) (cache : Cache) : Type 0 where
+pub record IsCached (state : NameState) (cache : Cache) : Type 0 where
   pub removals : state.removals ≡ cache.removals
-  pub file : IsKeptFile state.file cache
+  pub file : IsCachedFile state.file cache
 
 -- Names are told apart by their places, and each has its file beside it.
 pub record Backs (names : List (List ℕ)) (files : List Cache) (log : List Event) : Type 0 where
   pub beside : length files ≡ length names
   pub distinct : (i j : ℕ) → i < length names → j < length names → get_or names i [] ≡ get_or names j [] → i ≡ j
   pub known : All (λ event. (i : ℕ) × (i < length names) × (get_or names i [] ≡ event.name)) log
-  pub kept : (i : ℕ) → i < length names → IsKept (state_of (get_or names i []) log) (get_or files i no_file)
+  pub kept : (i : ℕ) → i < length names → IsCached (state_of (get_or names i []) log) (get_or files i no_file)
 
 abbrev pub is_live : Handle → Bool
 is_live handle = handle.live
@@ -72,7 +72,7 @@ pub record HoldsTogether (names : List (List ℕ)) (files : List Cache) (entries
   pub backs : Backs names files (map (event_of names) entries)
   pub entries_in : All (λ entry. entry.slot < length names) entries
   pub handles_in : All (λ handle. handle.slot < length names) handles
-  pub sound : All (IsSoundFile (map (event_of names) entries)) (map (open_of names) handles)
+  pub sound : All (IsSoundHandle (map (event_of names) entries)) (map (open_of names) handles)
   pub room : length entries + (count_by is_live handles + count_by is_dirty files) ≤ capacity
 
 -- the kept files after each act
@@ -96,7 +96,7 @@ abbrev pub KeepsOrAdds : List ℕ → List (String Global) → List MemoryFile �
 KeepsOrAdds name names files new_names new_files = ((new_names ≡ names) × (new_files ≡ files)) ⊎ (((i : ℕ) → i < length names → get_or (map string_bytes names) i [] ≢ name) × (map string_bytes new_names ≡ map string_bytes names ++ name ∷ []) × (map cache_of new_files ≡ map cache_of files ++ no_file ∷ []))
 
 abbrev pub HoldsInside : Inside → Type 0
-HoldsInside inside = HoldsTogether (names_of inside) (map cache_of inside.files.items) inside.log.items inside.handles.items inside.log.cap
+HoldsInside inside = HoldsTogether (inside_names inside) (map cache_of inside.files.items) inside.log.items inside.handles.items inside.log.cap
 
 -- What was replayed of a file, with at most so many writes shown behind its last sync.
 abbrev pub IsReplayedFile : ℕ → Option File → Replay → Type 0

@@ -63,9 +63,9 @@ holds size (Some bytes) = nat_le size (length bytes)
 abbrev pub is_there : OpenFile → List Event → Bool
 is_there file log = file.live && ((state_of file.name log).removals == file.removals) && holds file.size (contents_of file.name log)
 
-abbrev pub name_in : List Event → Option OpenFile → Option (List ℕ)
-name_in log None = None
-name_in log (Some file) = if is_there file log then Some file.name else None
+abbrev pub live_name : List Event → Option OpenFile → Option (List ℕ)
+live_name log None = None
+live_name log (Some file) = if is_there file log then Some file.name else None
 
 -- Such a disk tells everything. Its clock is the length of its history.
 abbrev pub memory_view : DiskState → View
@@ -76,19 +76,19 @@ memory_view disk = record {
   size_of = λ file. size_in (slice_get disk.open_files file);
   tells = true;
   contents = λ name. contents_of name disk.log;
-  name_of = λ file. name_in disk.log (slice_get disk.open_files file);
+  name_of = λ file. live_name disk.log (slice_get disk.open_files file);
   tells_images = true;
   clock = length disk.log;
   image = λ name t. IsImage (state_of name (take t disk.log)).file;
 }
 
 -- Every FileId is for the file of its name that is there, which has the bytes that it knows of, or for one that was removed.
-abbrev pub IsSoundFile : List Event → OpenFile → Type 0
-IsSoundFile log file = (file.removals ≤ (state_of file.name log).removals) × (file.removals ≡ (state_of file.name log).removals → holds file.size (contents_of file.name log) ≡ true)
+abbrev pub IsSoundHandle : List Event → OpenFile → Type 0
+IsSoundHandle log file = (file.removals ≤ (state_of file.name log).removals) × (file.removals ≡ (state_of file.name log).removals → holds file.size (contents_of file.name log) ≡ true)
 
 -- The counts fit their type, too.
-pub record IsSound (disk : DiskState) : Type 0 where
-  pub files : All (IsSoundFile disk.log) disk.open_files
+pub record IsSoundDisk (disk : DiskState) : Type 0 where
+  pub files : All (IsSoundHandle disk.log) disk.open_files
   pub faults : disk.faults < 2 ^ 64
   pub reads : disk.reads < 2 ^ 64
 
@@ -113,8 +113,8 @@ abbrev pub replaced : ℕ → OpenFile → DiskState → DiskState
 replaced place file disk = record disk { open_files = slice_set disk.open_files place file }
 
 -- a FileId for the file that is there, or is made, under a name
-abbrev pub opened : List ℕ → ℕ → List Event → OpenFile
-opened name size log = record { live = true; name = name; removals = (state_of name log).removals; size = size }
+abbrev pub opened_file : List ℕ → ℕ → List Event → OpenFile
+opened_file name size log = record { live = true; name = name; removals = (state_of name log).removals; size = size }
 
 abbrev pub ended : OpenFile → OpenFile
 ended file = record file { live = false }
@@ -124,13 +124,13 @@ grown end file = record file { size = max file.size end }
 
 -- What each call answers and leaves.
 abbrev pub CreateGives : DiskState → List ℕ → Result FileId CreateFault → DiskState → Type 0
-CreateGives disk name (Ok file) new = (FailsAtCall disk → ⊥) × (contents_of name disk.log ≡ None) × (file.0 ≡ length disk.open_files) × (new ≡ given (opened name 0 disk.log) (noted name Making (passed disk)))
+CreateGives disk name (Ok file) new = (FailsAtCall disk → ⊥) × (contents_of name disk.log ≡ None) × (file.0 ≡ length disk.open_files) × (new ≡ given (opened_file name 0 disk.log) (noted name Making (passed disk)))
 CreateGives disk name (Err Exists) new = (FailsAtCall disk → ⊥) × IsSome (contents_of name disk.log) × (new ≡ passed disk)
 CreateGives disk name (Err CreateFailed) new = FailsAtCall disk × (new ≡ failed disk)
 CreateGives disk name (Err CreateMemory) new = (FailsAtCall disk → ⊥) × (contents_of name disk.log ≡ None) × (new ≡ passed disk)
 
 abbrev pub OpenGives : DiskState → List ℕ → Result FileId OpenFault → DiskState → Type 0
-OpenGives disk name (Ok file) new = (FailsAtCall disk → ⊥) × (file.0 ≡ length disk.open_files) × ((bytes : List ℕ) × (contents_of name disk.log ≡ Some bytes) × (new ≡ given (opened name (length bytes) disk.log) (passed disk)))
+OpenGives disk name (Ok file) new = (FailsAtCall disk → ⊥) × (file.0 ≡ length disk.open_files) × ((bytes : List ℕ) × (contents_of name disk.log ≡ Some bytes) × (new ≡ given (opened_file name (length bytes) disk.log) (passed disk)))
 OpenGives disk name (Err Absent) new = (FailsAtCall disk → ⊥) × (contents_of name disk.log ≡ None) × (new ≡ passed disk)
 OpenGives disk name (Err OpenFailed) new = FailsAtCall disk × (new ≡ failed disk)
 OpenGives disk name (Err OpenMemory) new = (FailsAtCall disk → ⊥) × IsSome (contents_of name disk.log) × (new ≡ passed disk)
@@ -177,12 +177,12 @@ abbrev pub replaced_in : ℕ → OpenFile → HistoryState → HistoryState
 replaced_in place file history = record history { open_files = slice_set history.open_files place file }
 
 abbrev pub MakeGives : HistoryState → List ℕ → Result (Option ℕ) AllocError → HistoryState → Type 0
-MakeGives history name (Ok (Some file)) new = (contents_of name history.log ≡ None) × (file ≡ length history.open_files) × (new ≡ given_in (opened name 0 history.log) (noted_in name Making history))
+MakeGives history name (Ok (Some file)) new = (contents_of name history.log ≡ None) × (file ≡ length history.open_files) × (new ≡ given_in (opened_file name 0 history.log) (noted_in name Making history))
 MakeGives history name (Ok None) new = IsSome (contents_of name history.log) × (new ≡ history)
 MakeGives history name (Err fault) new = (contents_of name history.log ≡ None) × (new ≡ history)
 
 abbrev pub FindGives : HistoryState → List ℕ → Result (Option ℕ) AllocError → HistoryState → Type 0
-FindGives history name (Ok (Some file)) new = (file ≡ length history.open_files) × ((bytes : List ℕ) × (contents_of name history.log ≡ Some bytes) × (new ≡ given_in (opened name (length bytes) history.log) history))
+FindGives history name (Ok (Some file)) new = (file ≡ length history.open_files) × ((bytes : List ℕ) × (contents_of name history.log ≡ Some bytes) × (new ≡ given_in (opened_file name (length bytes) history.log) history))
 FindGives history name (Ok None) new = (contents_of name history.log ≡ None) × (new ≡ history)
 FindGives history name (Err fault) new = IsSome (contents_of name history.log) × (new ≡ history)
 

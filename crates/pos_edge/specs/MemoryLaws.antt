@@ -8,7 +8,7 @@ use Rattle.std.proofs.lemmas.Option.{none-some, cond_some}
 use Rattle.pos_edge.specs.View.{IsDisk}
 use Rattle.pos_edge.specs.Images.{written, IsOutsideRange}
 use Rattle.pos_edge.specs.Log.{Event, File, state_of, contents_of, bytes_of, written_all, IsImage}
-use Rattle.pos_edge.specs.MemoryDisks.{DiskState, OpenFile, memory_view, live_of, size_in, holds, is_there, name_in}
+use Rattle.pos_edge.specs.MemoryDisks.{DiskState, OpenFile, memory_view, live_of, size_in, holds, is_there, live_name}
 
 -- a write makes nothing shorter, and leaves what is outside of it
 pub length-written_ge : (at : ℕ) (piece bytes : List ℕ) → length bytes ≤ length (written at piece bytes)
@@ -49,7 +49,7 @@ pub holds_bytes : (size : ℕ) (contents : Option (List ℕ)) → holds size con
 holds_bytes size None e = absurd (false≢true e)
 holds_bytes size (Some bytes) e = (bytes, refl, leb-true size (length bytes) e)
 
-pub named_at : (log : List Event) (file : Option OpenFile) (name : List ℕ) → name_in log file ≡ Some name
+pub named_at : (log : List Event) (file : Option OpenFile) (name : List ℕ) → live_name log file ≡ Some name
     → (live_of file ≡ true) × ((bytes : List ℕ) × (contents_of name log ≡ Some bytes) × (size_in file ≤ length bytes))
 named_at log None name is = absurd (none-some name is)
 named_at log (Some file) name is =

@@ -1,6 +1,11 @@
 -- What a sink was given, and when one in memory fails.
 use Rattle.std.specs.Prelude.{ℕ, ◌+◌, ◌≤◌, ◌<◌, ◌≡◌, ◌⊎◌, List, [], ◌++◌, length, take, Contains, Option, Some, None}
 
+-- A sink at a moment: the bytes written, where it tells them, and how often it has failed.
+pub record Heard : Type 0 where
+  pub text : Option (List ℕ)
+  pub faults : ℕ
+
 -- The bytes written, with these behind them. None: the sink doesn't tell what was written.
 abbrev pub followed_by : Option (List ℕ) → List ℕ → Option (List ℕ)
 followed_by None piece = None

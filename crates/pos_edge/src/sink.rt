@@ -1,7 +1,7 @@
 // Where text goes.
-ghost use Rattle.std.specs.Prelude.{◌≡◌, ◌≤◌, List, ℕ, Option, is_some, OnOk, OnErr};
+ghost use Rattle.std.specs.Prelude.{◌≡◌, ◌≤◌, is_some, OnOk, OnErr};
 ghost use Rattle.pos_edge.specs.Faults.{Rose};
-ghost use Rattle.pos_edge.specs.Sinks.{followed_by, AppendsPartOf};
+ghost use Rattle.pos_edge.specs.Sinks.{Heard, followed_by, AppendsPartOf};
 
 /// A sink didn't take a whole piece.
 #[derive(Clone, Copy, Debug, PartialEq, Eq)]
@@ -9,18 +9,15 @@ pub struct PutFailed;
 
 /// Where text goes. A sink that takes nothing of a piece that isn't empty has failed.
 pub trait Sink {
-    /// How often the sink has failed.
-    ghost faults: { Self → ℕ };
-
-    /// The bytes written, or None where the sink doesn't tell them.
-    ghost text: { Self → Option (List ℕ) };
+    /// What the sink was given, where it tells it, and how often it has failed.
+    ghost heard: { Self → Heard };
 
     /// Writes a piece behind what was written before. Takes no memory.
     fn put(&mut self, bytes: &[u8]) -> Result<(), PutFailed>
-        ensures appended { OnOk result (text self.new ≡ followed_by (text self.old) bytes.now) }
-        ensures cut_short { OnErr result (AppendsPartOf bytes.now (text self.old) (text self.new)) }
-        ensures told { is_some (text self.new) ≡ is_some (text self.old) }
-        ensures never_falls { faults self.old ≤ faults self.new }
-        ensures cause { OnErr result (Rose (faults self.old) (faults self.new)) }
-        ensures quiet { OnOk result (faults self.new ≡ faults self.old) };
+        ensures appended { OnOk result ((heard self.new).text ≡ followed_by (heard self.old).text bytes.now) }
+        ensures cut_short { OnErr result (AppendsPartOf bytes.now (heard self.old).text (heard self.new).text) }
+        ensures told { is_some (heard self.new).text ≡ is_some (heard self.old).text }
+        ensures never_falls { (heard self.old).faults ≤ (heard self.new).faults }
+        ensures cause { OnErr result (Rose (heard self.old).faults (heard self.new).faults) }
+        ensures quiet { OnOk result ((heard self.new).faults ≡ (heard self.old).faults) };
 }

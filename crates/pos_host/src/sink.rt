@@ -27,9 +27,7 @@ impl<W: Write + Drop> HostSink<W> {
 }
 
 impl<W: Write + Drop> Sink for HostSink<W> {
-    ghost faults = { λ s. s.faults };
-
-    ghost text = { λ _. None };
+    ghost heard = { λ s. record { text = None; faults = s.faults } };
 
     fn put(&mut self, bytes: &[u8]) -> Result<(), PutFailed> {
         if is_written(&mut self.out, bytes) {

@@ -7,7 +7,7 @@ use Rattle.pos_layout.specs.declared.header.Column.{Column}
 use Rattle.pos_layout.specs.declared.header.Header.{Header}
 use Rattle.pos_layout.specs.declared.entry.ParkEntry.{ParkEntry}
 use Rattle.pos_layout.specs.Bytes.{part, four, eight}
-use Rattle.pos_layout.specs.Forms.{Form}
+use Rattle.pos_layout.specs.Layouts.{Layout}
 use Rattle.std.specs.List.{list_all}
 use Rattle.std.specs.Str.{bytes_eq}
 use Rattle.pos_layout.specs.declared.damage.HeaderField.{HeaderField}
@@ -124,7 +124,7 @@ columns_all cs x v i e f h =
     let n : 56 + 16 * i ≡ 168 = omega arith in
     ap (λ j. take j v) (sym n) ∙ (h ∙ ap (λ y. x ++ columns_bytes y) (take_all i cs (omega arith)))
 
-pub header_bytes-is : (l : Form) (h : Header) (z f : List ℕ) (k : ℕ) → k ≡ h.size → z ≡ replicate 7 0 → f ≡ to_be_bytes w64 h.file_length
+pub header_bytes-is : (l : Layout) (h : Header) (z f : List ℕ) (k : ℕ) → k ≡ h.size → z ≡ replicate 7 0 → f ≡ to_be_bytes w64 h.file_length
     → ((((((0 ∷ []) ++ l.name) ++ h.id.0) ++ (k ∷ [])) ++ z) ++ columns_bytes h.columns) ++ f ≡ header_bytes l 0 h
 unfolding header_bytes eight
 header_bytes-is l h z f k ek ez ef = simp append_assoc (rw (ek, ez, ef) refl)
@@ -141,21 +141,21 @@ pub skip : {D : Type 0} (test : Bool) (d : D) (tests : List (Option D)) (o : Opt
 skip test d tests o e f = first_holds test d tests e ∙ f
 
 -- what the tests of a header find, by their answers
-pub fault_name : (l : Form) (b : List ℕ) → bytes_eq (name_in b) l.name ≡ false → header_fault l b ≡ Some Name
+pub fault_name : (l : Layout) (b : List ℕ) → bytes_eq (name_in b) l.name ≡ false → header_fault l b ≡ Some Name
 unfolding header_fault
 fault_name l b n = first_fails _ _ _ n
 
-pub fault_size : (l : Form) (b : List ℕ) (k : ℕ) → k ≡ get_or b 48 0 → bytes_eq (name_in b) l.name ≡ true → (leb LEAST_SIZE k && leb k GREATEST_SIZE) ≡ false → header_fault l b ≡ Some Size
+pub fault_size : (l : Layout) (b : List ℕ) (k : ℕ) → k ≡ get_or b 48 0 → bytes_eq (name_in b) l.name ≡ true → (leb LEAST_SIZE k && leb k GREATEST_SIZE) ≡ false → header_fault l b ≡ Some Size
 unfolding header_fault header_in
 fault_size l b k e n s = skip _ _ _ _ n (first_fails _ _ _ (ap (λ k. leb LEAST_SIZE k && leb k GREATEST_SIZE) (sym e) ∙ s))
 
-pub fault_zeros : (l : Form) (b z : List ℕ) (k : ℕ) → k ≡ get_or b 48 0 → z ≡ zeros_in b → bytes_eq (name_in b) l.name ≡ true → (leb LEAST_SIZE k && leb k GREATEST_SIZE) ≡ true
+pub fault_zeros : (l : Layout) (b z : List ℕ) (k : ℕ) → k ≡ get_or b 48 0 → z ≡ zeros_in b → bytes_eq (name_in b) l.name ≡ true → (leb LEAST_SIZE k && leb k GREATEST_SIZE) ≡ true
     → list_all (λ x. eqb x 0) z ≡ false → header_fault l b ≡ Some Zeros
 unfolding header_fault header_in
 fault_zeros l b z k e f n s t =
     skip _ _ _ _ n (skip _ _ _ _ (ap (λ k. leb LEAST_SIZE k && leb k GREATEST_SIZE) (sym e) ∙ s) (first_fails _ _ _ (ap (list_all (λ x. eqb x 0)) (sym f) ∙ t)))
 
-fault_rest : (l : Form) (b z : List ℕ) (k most : ℕ) (cs : List Column) (o : Option HeaderField) → k ≡ get_or b 48 0 → z ≡ zeros_in b → cs ≡ (header_in b).columns → most ≡ 2 ^ (k + 1)
+fault_rest : (l : Layout) (b z : List ℕ) (k most : ℕ) (cs : List Column) (o : Option HeaderField) → k ≡ get_or b 48 0 → z ≡ zeros_in b → cs ≡ (header_in b).columns → most ≡ 2 ^ (k + 1)
     → bytes_eq (name_in b) l.name ≡ true → (leb LEAST_SIZE k && leb k GREATEST_SIZE) ≡ true → list_all (λ x. eqb x 0) z ≡ true
     → first_found (unless (list_all (λ (c : Column). leb c.count most) cs) Counts ∷ []) ≡ o → header_fault l b ≡ o
 unfolding header_fault header_in
@@ -164,12 +164,12 @@ fault_rest l b z k most cs o e f g h n s t r =
     (ap (λ m. first_found (unless (list_all (λ (c : Column). leb c.count m) (header_in b).columns) Counts ∷ [])) (ap (λ j. 2 ^ (j + 1)) (sym e) ∙ sym h)
     ∙ (ap (λ ds. first_found (unless (list_all (λ (c : Column). leb c.count most) ds) Counts ∷ [])) (sym g) ∙ r))))
 
-pub fault_counts : (l : Form) (b z : List ℕ) (k most : ℕ) (cs : List Column) → k ≡ get_or b 48 0 → z ≡ zeros_in b → cs ≡ (header_in b).columns → most ≡ 2 ^ (k + 1)
+pub fault_counts : (l : Layout) (b z : List ℕ) (k most : ℕ) (cs : List Column) → k ≡ get_or b 48 0 → z ≡ zeros_in b → cs ≡ (header_in b).columns → most ≡ 2 ^ (k + 1)
     → bytes_eq (name_in b) l.name ≡ true → (leb LEAST_SIZE k && leb k GREATEST_SIZE) ≡ true → list_all (λ x. eqb x 0) z ≡ true
     → list_all (λ (c : Column). leb c.count most) cs ≡ false → header_fault l b ≡ Some Counts
 fault_counts l b z k most cs e f g h n s t u = fault_rest l b z k most cs (Some Counts) e f g h n s t (first_fails _ _ _ u)
 
-pub fault_none : (l : Form) (b z : List ℕ) (k most : ℕ) (cs : List Column) → k ≡ get_or b 48 0 → z ≡ zeros_in b → cs ≡ (header_in b).columns → most ≡ 2 ^ (k + 1)
+pub fault_none : (l : Layout) (b z : List ℕ) (k most : ℕ) (cs : List Column) → k ≡ get_or b 48 0 → z ≡ zeros_in b → cs ≡ (header_in b).columns → most ≡ 2 ^ (k + 1)
     → bytes_eq (name_in b) l.name ≡ true → (leb LEAST_SIZE k && leb k GREATEST_SIZE) ≡ true → list_all (λ x. eqb x 0) z ≡ true
     → list_all (λ (c : Column). leb c.count most) cs ≡ true → header_fault l b ≡ None
 fault_none l b z k most cs e f g h n s t u = fault_rest l b z k most cs None e f g h n s t (first_holds _ _ [] u)

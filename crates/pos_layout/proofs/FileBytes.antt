@@ -10,7 +10,7 @@ use Rattle.pos_layout.specs.declared.header.Column.{Column}
 use Rattle.pos_layout.specs.declared.header.Header.{Header}
 use Rattle.pos_layout.specs.declared.header.TheConstants.{HEADER_BYTES}
 use Rattle.pos_layout.specs.Bytes.{four, eight}
-use Rattle.pos_layout.specs.Forms.{Form, IsForm}
+use Rattle.pos_layout.specs.Layouts.{Layout, IsLayout}
 use Rattle.pos_layout.specs.Lists.{IsPlot}
 use Rattle.pos_lists.specs.PlotLists.{PlotLists}
 use Rattle.pos_layout.specs.Fields.{column_bytes, columns_bytes, header_bytes, entry_fields}
@@ -41,7 +41,7 @@ sha256-are_bytes : (s : List ℕ) → AreBytes (sha256 s)
 unfolding sha256
 sha256-are_bytes s = digest-are_bytes (final_hash initial_hash_256 s) 8
 
-entry-are_bytes : (l : Form) (k t at : ℕ) (ns : List ℕ) → AreBytes (entry_fields (entry_for l k t at ns))
+entry-are_bytes : (l : Layout) (k t at : ℕ) (ns : List ℕ) → AreBytes (entry_fields (entry_for l k t at ns))
 unfolding entry_fields entry_for
 entry-are_bytes l k t at ns =
     both (eight at) _ (eight-are_bytes at)
@@ -54,12 +54,12 @@ unfolding park_bytes
 parks-are_bytes k [] = All-nil (λ b. b < 256)
 parks-are_bytes k (ns ∷ parks) = both (park_of k ns) _ (park_of-bytes k ns) (parks-are_bytes k parks)
 
-directory-are_bytes : (l : Form) (k t at : ℕ) (parks : List (List ℕ)) → AreBytes (directory l k t at parks)
+directory-are_bytes : (l : Layout) (k t at : ℕ) (parks : List (List ℕ)) → AreBytes (directory l k t at parks)
 unfolding directory
 directory-are_bytes l k t at [] = All-nil (λ b. b < 256)
 directory-are_bytes l k t at (ns ∷ parks) = both (entry_fields (entry_for l k t at ns)) _ (entry-are_bytes l k t at ns) (directory-are_bytes l k t (at + length (park_of k ns)) parks)
 
-tables-are_bytes : (l : Form) (k t at : ℕ) (tables : List (List ℕ)) → AreBytes (tables_bytes l k t at tables)
+tables-are_bytes : (l : Layout) (k t at : ℕ) (tables : List (List ℕ)) → AreBytes (tables_bytes l k t at tables)
 unfolding tables_bytes table_bytes
 tables-are_bytes l k t at [] = All-nil (λ b. b < 256)
 tables-are_bytes l k t at (ns ∷ tables) =
@@ -70,7 +70,7 @@ unfolding columns_bytes column_bytes
 columns-are_bytes [] = All-nil (λ b. b < 256)
 columns-are_bytes (c ∷ cs) = both (column_bytes c) _ (both (eight c.count) _ (eight-are_bytes _) (eight-are_bytes _)) (columns-are_bytes cs)
 
-header-are_bytes : (l : Form) (h : Header) → AreBytes l.name → AreBytes h.id.0 → h.size < 256 → AreBytes (header_bytes l 1 h)
+header-are_bytes : (l : Layout) (h : Header) → AreBytes l.name → AreBytes h.id.0 → h.size < 256 → AreBytes (header_bytes l 1 h)
 unfolding header_bytes
 header-are_bytes l h name id size =
     let end = columns_bytes h.columns ++ eight h.file_length in
@@ -80,7 +80,7 @@ header-are_bytes l h name id size =
     All-cons (λ b. b < 256) 1 (l.name ++ (h.id.0 ++ h.size ∷ rest)) (omega arith)
     (both l.name (h.id.0 ++ h.size ∷ rest) name (both h.id.0 (h.size ∷ rest) id rests))
 
-pub file-are_bytes : (l : Form) (p : PlotLists) → IsForm l → IsPlot p → AreBytes (file_of l p)
+pub file-are_bytes : (l : Layout) (p : PlotLists) → IsLayout l → IsPlot p → AreBytes (file_of l p)
 unfolding file_with header_of body_of
-file-are_bytes l p form plot =
-    both (header_bytes l 1 (header_of l p)) _ (header-are_bytes l (header_of l p) form.name_bytes plot.id_bytes (let g = plot.greatest in omega arith)) (tables-are_bytes l p.k 1 HEADER_BYTES p.tables)
+file-are_bytes l p layout plot =
+    both (header_bytes l 1 (header_of l p)) _ (header-are_bytes l (header_of l p) layout.name_bytes plot.id_bytes (let g = plot.greatest in omega arith)) (tables-are_bytes l p.k 1 HEADER_BYTES p.tables)

@@ -14,7 +14,7 @@ use Rattle.pos_layout.specs.declared.damage.HeaderField.TheVariants.{Name, Size,
 use Rattle.pos_layout.specs.declared.damage.Damage.{Damage}
 use Rattle.pos_layout.specs.declared.damage.Damage.TheVariants.{NotOpen, Header as WrongHeader, Length, Directory}
 use Rattle.pos_layout.specs.declared.header.TheConstants.{HEADER_BYTES, LEAST_SIZE, GREATEST_SIZE}
-use Rattle.pos_layout.specs.Forms.{Form}
+use Rattle.pos_layout.specs.Layouts.{Layout}
 use Rattle.pos_layout.specs.Fields.{gate_in, name_in, zeros_in, header_in, count_of, end_of}
 use Rattle.pos_layout.specs.Rules.{IsPlaced}
 use Rattle.pos_layout.specs.Causes.{IsGated, IsSize, AreCounts, FieldCause, PlaceCause, OpeningCause}
@@ -78,7 +78,7 @@ counts_decide b = (into, back)
         let n = seven_columns b in
         le-leb (get_or h.columns s no_column).count most (subst (λ (c : Column). c.count ≤ most) (column_of-suc h s) (few (suc s) (omega arith) (omega arith))))
 
-placed_decides : (l : Form) (h : Header) (t : ℕ) → Decides (is_placed l h t) (IsPlaced l h t)
+placed_decides : (l : Layout) (h : Header) (t : ℕ) → Decides (is_placed l h t) (IsPlaced l h t)
 placed_decides l h t = (placed_is l h t, is_placed_by l h t)
 
 equal_decides : (m n : ℕ) → Decides (eqb m n) (m ≡ n)
@@ -86,7 +86,7 @@ equal_decides m n = (eqb-eq m n, eq-eqb m n)
 
 -- ---- the header
 
-module _ (l : Form) (b : List ℕ) (long : HEADER_BYTES ≤ length b) where
+module _ (l : Layout) (b : List ℕ) (long : HEADER_BYTES ≤ length b) where
   zeros_length : length (zeros_in b) ≡ 7
   zeros_length = length-part b 49 7 (omega arith)
 
@@ -123,7 +123,7 @@ module _ (l : Form) (b : List ℕ) (long : HEADER_BYTES ≤ length b) where
 
 -- ---- the directories
 
-module _ (l : Form) (h : Header) where
+module _ (l : Layout) (h : Header) where
   whole_test : List (Option Damage)
   whole_test = unless (eqb (end_of l h 7) h.file_length) (Directory 7 0) ∷ []
 
@@ -202,7 +202,7 @@ mapped : (o : Option HeaderField) (d : Damage) (C : Type 0) → option_map (λ f
 mapped None d C h give = absurd (none-some d h)
 mapped (Some f) d C h give = give f refl (same_Some _ d h)
 
-pub cause_found : (l : Form) (b : List ℕ) (d : Damage) → opening l b (length b) ≡ Some d → OpeningCause l b d
+pub cause_found : (l : Layout) (b : List ℕ) (d : Damage) → opening l b (length b) ≡ Some d → OpeningCause l b d
 unfolding opening
 cause_found l b d f =
     let h = header_in b in
@@ -221,11 +221,11 @@ cause_found l b d f =
     (λ g. directory_cause l h d C g (λ u e c. subst (OpeningCause l b) e (gated, right, said, refl, c)))
     (λ g f4. absurd (none-some d f4)))))
 
-past_gate : (l : Form) (b : List ℕ) (os : List (Option Damage)) (o : Option Damage) → IsGated b → first_found os ≡ o
+past_gate : (l : Layout) (b : List ℕ) (os : List (Option Damage)) (o : Option Damage) → IsGated b → first_found os ≡ o
     → first_found (unless (leb HEADER_BYTES (length b) && eqb (gate_in b) 1) (NotOpen (length b) (gate_in b)) ∷ os) ≡ o
 past_gate l b os o gated h = goes_on (leb HEADER_BYTES (length b) && eqb (gate_in b) 1) (IsGated b) (NotOpen (length b) (gate_in b)) os o (gated_decides b) gated h
 
-pub found_cause : (l : Form) (b : List ℕ) (d : Damage) → OpeningCause l b d → opening l b (length b) ≡ Some d
+pub found_cause : (l : Layout) (b : List ℕ) (d : Damage) → OpeningCause l b d → opening l b (length b) ≡ Some d
 unfolding opening
 found_cause l b (NotOpen n gate) c =
     fails_now (leb HEADER_BYTES (length b) && eqb (gate_in b) 1) (IsGated b) (NotOpen (length b) (gate_in b)) _ (gated_decides b) c.2

@@ -13,7 +13,7 @@ use Rattle.pos_layout.specs.declared.header.Header.{Header}
 use Rattle.pos_layout.specs.declared.header.TheConstants.{HEADER_BYTES}
 use Rattle.pos_layout.specs.declared.entry.ParkEntry.{ParkEntry}
 use Rattle.pos_layout.specs.Bytes.{part, four, eight, four_at, eight_at}
-use Rattle.pos_layout.specs.Forms.{Form, entry_bytes}
+use Rattle.pos_layout.specs.Layouts.{Layout, entry_bytes}
 use Rattle.pos_layout.specs.Fields.{gate_in, name_in, zeros_in, column_bytes, columns_bytes, entry_fields, entry_of, header_bytes, header_in, column_in}
 use Rattle.pos_layout.proofs.CodecLemmas.{entry_from, column_from, header_from, length-part}
 use Rattle.pos_layout.proofs.FileParts.{Has, has_all, has_front, has_back, join, has_at, has_same, has_none, has-get, has_part, has-is, has_of, has-whole}
@@ -63,18 +63,18 @@ one_there b at h = has_of b at 1 _ refl (rw (drop_more b at 0 h) refl)
 -- ---- entries
 
 -- fields that an entry's bytes hold
-pub record EntryFits (l : Form) (e : ParkEntry) : Type 0 where
+pub record EntryFits (l : Layout) (e : ParkEntry) : Type 0 where
   pub offset : e.offset < 2 ^ 64
   pub park_length : e.park_length < 2 ^ 32
   pub count : e.count < 2 ^ 32
   pub digest : length e.digest ≡ l.digest
   pub head : e.head < 2 ^ 64
 
-pub length-entry_fields : (l : Form) (e : ParkEntry) → length e.digest ≡ l.digest → length (entry_fields e) ≡ entry_bytes l
+pub length-entry_fields : (l : Layout) (e : ParkEntry) → length e.digest ≡ l.digest → length (entry_fields e) ≡ entry_bytes l
 unfolding entry_fields
 length-entry_fields l e d = simp (length-append, length-eight, length-four) (omega arith)
 
-entry_alone-read : (l : Form) (s : List ℕ) (e : ParkEntry) → EntryFits l e → Has s 0 (entry_fields e) → entry_of l s ≡ e
+entry_alone-read : (l : Layout) (s : List ℕ) (e : ParkEntry) → EntryFits l e → Has s 0 (entry_fields e) → entry_of l s ≡ e
 unfolding entry_of entry_fields four eight
 entry_alone-read l s e fits h0 =
     let h8 = has_back s 0 (eight e.offset) _ h0 in
@@ -90,17 +90,17 @@ entry_alone-read l s e fits h0 =
     (eight_read s (16 + l.digest) e.head fits.head (has_at s (16 + length e.digest) (16 + l.digest) (eight e.head) at_head hd))
 
 -- the entry that stands somewhere is read there
-pub entry_read : (l : Form) (b : List ℕ) (at : ℕ) (e : ParkEntry) → EntryFits l e → Has b at (entry_fields e) → entry_of l (part b at (entry_bytes l)) ≡ e
+pub entry_read : (l : Layout) (b : List ℕ) (at : ℕ) (e : ParkEntry) → EntryFits l e → Has b at (entry_fields e) → entry_of l (part b at (entry_bytes l)) ≡ e
 entry_read l b at e fits h =
     let s = part b at (entry_bytes l) in
     let same : s ≡ entry_fields e = has-is b at (entry_bytes l) (entry_fields e) (length-entry_fields l e fits.digest) h in
     entry_alone-read l s e fits (has_same s 0 s (entry_fields e) same (has_all s))
 
-digest_of : (l : Form) (s : List ℕ) → length (entry_of l s).digest ≡ length (part s 16 l.digest)
+digest_of : (l : Layout) (s : List ℕ) → length (entry_of l s).digest ≡ length (part s 16 l.digest)
 unfolding entry_of
 digest_of l s = refl
 
-entry_alone-there : (l : Form) (s : List ℕ) → AreBytes s → length s ≡ entry_bytes l → Has s 0 (entry_fields (entry_of l s))
+entry_alone-there : (l : Layout) (s : List ℕ) → AreBytes s → length s ≡ entry_bytes l → Has s 0 (entry_fields (entry_of l s))
 unfolding entry_of entry_fields four eight
 entry_alone-there l s bytes n =
     let d : length (part s 16 l.digest) ≡ l.digest = length-part s 16 l.digest (omega arith) in
@@ -112,7 +112,7 @@ entry_alone-there l s bytes n =
     (has_at s (16 + l.digest) _ _ at_head (eight_there s (16 + l.digest) bytes (omega arith))))))
 
 -- and what is read somewhere stands there
-pub entry_there : (l : Form) (b : List ℕ) (at : ℕ) → AreBytes b → at + entry_bytes l ≤ length b → Has b at (entry_fields (entry_of l (part b at (entry_bytes l))))
+pub entry_there : (l : Layout) (b : List ℕ) (at : ℕ) → AreBytes b → at + entry_bytes l ≤ length b → Has b at (entry_fields (entry_of l (part b at (entry_bytes l))))
 entry_there l b at bytes h =
     let s = part b at (entry_bytes l) in
     let n : length s ≡ entry_bytes l = length-part b at (entry_bytes l) h in
@@ -181,19 +181,19 @@ pub record HeaderFits (h : Header) : Type 0 where
   pub columns : All ColumnFits h.columns
   pub file_length : h.file_length < 2 ^ 64
 
-pub length-header_bytes : (l : Form) (gate : ℕ) (h : Header) → length l.name ≡ 15 → length h.id.0 ≡ 32 → length h.columns ≡ 7 → length (header_bytes l gate h) ≡ HEADER_BYTES
+pub length-header_bytes : (l : Layout) (gate : ℕ) (h : Header) → length l.name ≡ 15 → length h.id.0 ≡ 32 → length h.columns ≡ 7 → length (header_bytes l gate h) ≡ HEADER_BYTES
 unfolding header_bytes
 length-header_bytes l gate h n i c =
     simp (length-append, length-columns_bytes, length-eight) (rw (n, i, c) refl)
 
 -- what a header says, as bytes that have it at their front are read
-pub record HeaderRead (l : Form) (gate : ℕ) (h : Header) (b : List ℕ) : Type 0 where
+pub record HeaderRead (l : Layout) (gate : ℕ) (h : Header) (b : List ℕ) : Type 0 where
   pub gate_is : gate_in b ≡ gate
   pub name : name_in b ≡ l.name
   pub zeros : zeros_in b ≡ replicate 7 0
   pub header : header_in b ≡ h
 
-pub header_read : (l : Form) (gate : ℕ) (h : Header) (b : List ℕ) → length l.name ≡ 15 → HeaderFits h → Has b 0 (header_bytes l gate h) → HeaderRead l gate h b
+pub header_read : (l : Layout) (gate : ℕ) (h : Header) (b : List ℕ) → length l.name ≡ 15 → HeaderFits h → Has b 0 (header_bytes l gate h) → HeaderRead l gate h b
 unfolding header_bytes header_in columns_in
 header_read l gate h b n fits h0 =
     let h1 = has_back b 0 (gate ∷ []) _ h0 in
@@ -215,7 +215,7 @@ header_read l gate h b n fits h0 =
           (eight_read b 168 h.file_length fits.file_length h168);
     }
 
-pub header_there : (l : Form) (b : List ℕ) → AreBytes b → HEADER_BYTES ≤ length b → name_in b ≡ l.name → zeros_in b ≡ replicate 7 0 → Has b 0 (header_bytes l (gate_in b) (header_in b))
+pub header_there : (l : Layout) (b : List ℕ) → AreBytes b → HEADER_BYTES ≤ length b → name_in b ≡ l.name → zeros_in b ≡ replicate 7 0 → Has b 0 (header_bytes l (gate_in b) (header_in b))
 unfolding header_bytes header_in columns_in
 header_there l b bytes long name zeros =
     let n : length l.name ≡ 15 = ap length (sym name) ∙ length-part b 1 15 (omega arith) in

@@ -1,31 +1,31 @@
 -- Of what a crash may leave of a file that is written, nothing opens but the finished file.
 use Rattle.std.proofs.Common.{◌≡◌, ℕ, zero, suc, ◌<◌, ◌⊎◌, inl, inr, List, length, get_or, Some, refl, sym, ◌∙◌, arith}
 use Rattle.std.proofs.lemmas.List.{ext_get_or}
-use Rattle.pos_layout.specs.Forms.{Form}
+use Rattle.pos_layout.specs.Layouts.{Layout}
 use Rattle.pos_lists.specs.PlotLists.{PlotLists}
 use Rattle.pos_layout.specs.Fields.{header_bytes}
 use Rattle.pos_layout.specs.Rules.{Opens}
 use Rattle.pos_layout.specs.Files.{file_with, file_of}
 use Rattle.pos_layout.specs.Images.{IsTiny, IsShut, IsTinyOrShut, IsButGate, IsShutOr}
 
-pub tiny_is_closed : (l : Form) (b : List ℕ) → IsTiny (Some b) → Opens l b → ⊥
+pub tiny_is_closed : (l : Layout) (b : List ℕ) → IsTiny (Some b) → Opens l b → ⊥
 tiny_is_closed l b tiny opens = let n = opens.long in omega arith
 
-pub shut_is_closed : (l : Form) (b : List ℕ) → IsShut (Some b) → Opens l b → ⊥
+pub shut_is_closed : (l : Layout) (b : List ℕ) → IsShut (Some b) → Opens l b → ⊥
 shut_is_closed l b shut opens = let g = opens.gate in let z = shut.1 in omega arith
 
-gate_of_file : (l : Form) (p : PlotLists) → get_or (file_of l p) 0 0 ≡ 1
+gate_of_file : (l : Layout) (p : PlotLists) → get_or (file_of l p) 0 0 ≡ 1
 unfolding file_with header_bytes
 gate_of_file l p = refl
 
-pub but_gate_is_the_file : (l : Form) (b : List ℕ) (p : PlotLists) → IsButGate (file_of l p) (Some b) → Opens l b → b ≡ file_of l p
+pub but_gate_is_the_file : (l : Layout) (b : List ℕ) (p : PlotLists) → IsButGate (file_of l p) (Some b) → Opens l b → b ≡ file_of l p
 but_gate_is_the_file l b p but opens = ext_get_or 0 b (file_of l p) but.0 same
   where
     same : (i : ℕ) → i < length b → get_or b i 0 ≡ get_or (file_of l p) i 0
     same zero less = opens.gate ∙ sym (gate_of_file l p)
     same (suc i) less = but.1 (suc i) (omega arith)
 
-pub image_is_the_file : (l : Form) (b : List ℕ) (p : PlotLists) → IsTinyOrShut (Some b) ⊎ IsShutOr (file_of l p) (Some b) → Opens l b → b ≡ file_of l p
+pub image_is_the_file : (l : Layout) (b : List ℕ) (p : PlotLists) → IsTinyOrShut (Some b) ⊎ IsShutOr (file_of l p) (Some b) → Opens l b → b ≡ file_of l p
 image_is_the_file l b p (inl (inl tiny)) opens = absurd (tiny_is_closed l b tiny opens)
 image_is_the_file l b p (inl (inr shut)) opens = absurd (shut_is_closed l b shut opens)
 image_is_the_file l b p (inr (inl shut)) opens = absurd (shut_is_closed l b shut opens)

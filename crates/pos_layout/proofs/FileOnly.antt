@@ -6,7 +6,7 @@ use Rattle.pos_bits.specs.Bits.{AreBytes}
 use Rattle.pos_bits.proofs.BytesLemmas.{AreBytes-part}
 use Rattle.pos_layout.specs.declared.header.TheConstants.{HEADER_BYTES}
 use Rattle.pos_layout.specs.Bytes.{part}
-use Rattle.pos_layout.specs.Forms.{Form, IsForm}
+use Rattle.pos_layout.specs.Layouts.{Layout, IsLayout}
 use Rattle.pos_layout.specs.Lists.{IsTable, IsPlot}
 use Rattle.pos_lists.specs.PlotLists.{PlotLists, numbers}
 use Rattle.pos_layout.specs.Fields.{header_bytes, header_in, end_of}
@@ -22,16 +22,16 @@ use Rattle.pos_layout.proofs.FilePlots.{no_column, tables_there, columns_are, ta
 plot_from : (i i' : List ℕ) (k k' : ℕ) (ts ts' : List (List ℕ)) → i ≡ i' → k ≡ k' → ts ≡ ts' → ◌≡◌ {A = PlotLists} (record { id = i; k = k; tables = ts }) (record { id = i'; k = k'; tables = ts' })
 plot_from i i' k k' ts ts' ei ek et = rw (ei, ek, et) refl
 
-pub one_plot : (l : Form) (b : List ℕ) (p q : PlotLists) → IsForm l → Stores l b p → Stores l b q → p ≡ q
+pub one_plot : (l : Layout) (b : List ℕ) (p q : PlotLists) → IsLayout l → Stores l b p → Stores l b q → p ≡ q
 unfolding numbers
-one_plot l b p q form x y =
+one_plot l b p q layout x y =
     plot_from p.id q.id p.k q.k p.tables q.tables (x.id ∙ sym y.id) (x.size ∙ sym y.size)
     (ext_get_or [] p.tables q.tables (x.seven ∙ sym y.seven) (λ s less.
     let n = x.seven in
     let g = x.opens.laid_out.greatest in
-    one_table l b (suc s) (get_or p.tables s []) (get_or q.tables s []) form (omega arith) (x.tables (suc s) (omega arith) (omega arith)) (y.tables (suc s) (omega arith) (omega arith))))
+    one_table l b (suc s) (get_or p.tables s []) (get_or q.tables s []) layout (omega arith) (x.tables (suc s) (omega arith) (omega arith)) (y.tables (suc s) (omega arith) (omega arith))))
 
-module _ (l : Form) (b : List ℕ) (p : PlotLists) (form : IsForm l) (bytes_ : AreBytes b) (st : Stores l b p) where
+module _ (l : Layout) (b : List ℕ) (p : PlotLists) (layout : IsLayout l) (bytes_ : AreBytes b) (st : Stores l b p) where
   room : (s : ℕ) → s < 7 → end_of l (header_in b) (suc s) ≤ length b
   room s less =
       let placed = (st.opens.laid_out.placed (suc s) (omega arith) (omega arith)).inside in
@@ -47,7 +47,7 @@ module _ (l : Form) (b : List ℕ) (p : PlotLists) (form : IsForm l) (bytes_ : A
       let e : i ≡ 0 + i = omega arith in
       let n = st.seven in
       let h : i < 7 = omega arith in
-      subst (λ j. TableAt l b j (get_or p.tables i [])) e (table_there l b i (get_or p.tables i []) form bytes_ (room i h) (stored i h))
+      subst (λ j. TableAt l b j (get_or p.tables i [])) e (table_there l b i (get_or p.tables i []) layout bytes_ (room i h) (stored i h))
 
   columns-is : (header_in b).columns ≡ columns_for l p.k 1 HEADER_BYTES p.tables
   unfolding header_in end_of
@@ -56,18 +56,18 @@ module _ (l : Form) (b : List ℕ) (p : PlotLists) (form : IsForm l) (bytes_ : A
       let m : length (columns_for l p.k 1 HEADER_BYTES p.tables) ≡ 7 = length-columns_for l p.k 1 HEADER_BYTES p.tables ∙ n in
       ext_get_or no_column (header_in b).columns (columns_for l p.k 1 HEADER_BYTES p.tables) (sym m)
       (λ j less. let e : j ≡ 0 + j = omega arith in
-      ap (λ i. get_or (header_in b).columns i no_column) e ∙ (columns_are l b p.tables 0 form table_at j (omega arith)
+      ap (λ i. get_or (header_in b).columns i no_column) e ∙ (columns_are l b p.tables 0 layout table_at j (omega arith)
       ∙ ap (λ k. get_or (columns_for l k 1 HEADER_BYTES p.tables) j no_column) (sym st.size)))
 
   body_there : Has b HEADER_BYTES (body_of l p)
   unfolding body_of end_of
-  body_there = subst (λ k. Has b HEADER_BYTES (tables_bytes l k 1 HEADER_BYTES p.tables)) (sym st.size) (tables_there l b p.tables 0 form table_at)
+  body_there = subst (λ k. Has b HEADER_BYTES (tables_bytes l k 1 HEADER_BYTES p.tables)) (sym st.size) (tables_there l b p.tables 0 layout table_at)
 
   last-is : length b ≡ HEADER_BYTES + length (body_of l p)
   unfolding body_of end_of
   last-is =
       let z : 0 + length p.tables ≡ 7 = (let n = st.seven in let g : 0 + length p.tables ≡ 7 = omega arith in g) in
-      sym st.opens.said ∙ (sym st.opens.laid_out.whole ∙ (ap (end_of l (header_in b)) (sym z) ∙ (tables_end l b p.tables 0 form table_at
+      sym st.opens.said ∙ (sym st.opens.laid_out.whole ∙ (ap (end_of l (header_in b)) (sym z) ∙ (tables_end l b p.tables 0 layout table_at
       ∙ ap (λ k. HEADER_BYTES + length (tables_bytes l k 1 HEADER_BYTES p.tables)) (sym st.size))))
 
   header-is : header_in b ≡ header_of l p
@@ -91,7 +91,7 @@ module _ (l : Form) (b : List ℕ) (p : PlotLists) (form : IsForm l) (bytes_ : A
 
   header-length : length (header_bytes l 1 (header_of l p)) ≡ HEADER_BYTES
   unfolding header_of
-  header-length = length-header_bytes l 1 (header_of l p) form.name_length id-length (length-columns_for l p.k 1 HEADER_BYTES p.tables ∙ st.seven)
+  header-length = length-header_bytes l 1 (header_of l p) layout.name_length id-length (length-columns_for l p.k 1 HEADER_BYTES p.tables ∙ st.seven)
 
   pub one_file : b ≡ file_of l p
   unfolding file_with
@@ -110,5 +110,5 @@ module _ (l : Form) (b : List ℕ) (p : PlotLists) (form : IsForm l) (bytes_ : A
         let n = st.seven in
         let h : s < 7 = omega arith in
         subst (λ k. IsTable k (get_or p.tables s [])) (sym st.size)
-        (table-numbers l b s (get_or p.tables s []) form bytes_ (room s h) (stored s h) (st.opens.laid_out.counts (suc s) (omega arith) (omega arith))));
+        (table-numbers l b s (get_or p.tables s []) layout bytes_ (room s h) (stored s h) (st.opens.laid_out.counts (suc s) (omega arith) (omega arith))));
   }

@@ -14,7 +14,7 @@ use Rattle.pos_layout.specs.declared.damage.HeaderField.TheVariants.{Name, Size,
 use Rattle.pos_layout.specs.declared.damage.Damage.{Damage}
 use Rattle.pos_layout.specs.declared.damage.Damage.TheVariants.{NotOpen, Header as WrongHeader, Length, Directory}
 use Rattle.pos_layout.specs.declared.header.TheConstants.{HEADER_BYTES, LEAST_SIZE, GREATEST_SIZE}
-use Rattle.pos_layout.specs.Forms.{Form}
+use Rattle.pos_layout.specs.Layouts.{Layout}
 use Rattle.pos_layout.specs.Fields.{gate_in, name_in, zeros_in, header_in, count_of, directory_of, end_of}
 use Rattle.pos_layout.specs.Rules.{IsPlaced, Opens}
 use Rattle.pos_layout.specs.Causes.{HasRightHeader}
@@ -90,7 +90,7 @@ pub seven_columns : (b : List ℕ) → length (header_in b).columns ≡ 7
 unfolding header_in
 seven_columns b = refl
 
-abbrev header_tests : Form → List ℕ → List (Option HeaderField)
+abbrev header_tests : Layout → List ℕ → List (Option HeaderField)
 header_tests l b =
     unless (bytes_eq (name_in b) l.name) Name
     ∷ unless (leb LEAST_SIZE (header_in b).size && leb (header_in b).size GREATEST_SIZE) Size
@@ -98,7 +98,7 @@ header_tests l b =
     ∷ unless (list_all (λ (c : Column). leb c.count (2 ^ ((header_in b).size + 1))) (header_in b).columns) Counts
     ∷ []
 
-pub header_is_right : (l : Form) (b : List ℕ) → HEADER_BYTES ≤ length b → header_fault l b ≡ None → HasRightHeader l b
+pub header_is_right : (l : Layout) (b : List ℕ) → HEADER_BYTES ≤ length b → header_fault l b ≡ None → HasRightHeader l b
 unfolding header_fault
 header_is_right l b long h =
     let a = all_none (header_tests l b) h in
@@ -116,7 +116,7 @@ header_is_right l b long h =
           subst (λ (c : Column). c.count ≤ most) (sym (column_of-suc (header_in b) s)) (leb-le (get_or (header_in b).columns s no_column).count most t));
     }
 
-pub right_header : (l : Form) (b : List ℕ) → HasRightHeader l b → header_fault l b ≡ None
+pub right_header : (l : Layout) (b : List ℕ) → HasRightHeader l b → header_fault l b ≡ None
 unfolding header_fault
 right_header l b h =
     let most = 2 ^ ((header_in b).size + 1) in
@@ -139,7 +139,7 @@ right_header l b h =
 
 -- ---- the directories
 
-pub placed_is : (l : Form) (h : Header) (t : ℕ) → is_placed l h t ≡ true → IsPlaced l h t
+pub placed_is : (l : Layout) (h : Header) (t : ℕ) → is_placed l h t ≡ true → IsPlaced l h t
 placed_is l h t e =
     let before = end_of l h (t - 1) in
     let a = leb before (directory_of h t) in
@@ -155,7 +155,7 @@ placed_is l h t e =
           eqb-eq (directory_of h t) before (subst (λ c. (not c || eqb (directory_of h t) before) ≡ true) y p.1);
     }
 
-pub is_placed_by : (l : Form) (h : Header) (t : ℕ) → IsPlaced l h t → is_placed l h t ≡ true
+pub is_placed_by : (l : Layout) (h : Header) (t : ℕ) → IsPlaced l h t → is_placed l h t ≡ true
 is_placed_by l h t p =
     let before = end_of l h (t - 1) in
     both_true _ _ (both_true _ _ (le-leb before (directory_of h t) p.after) (le-leb (end_of l h t) h.file_length p.inside)) ((last (eqb (count_of h t) 0) (λ e. eq-eqb (directory_of h t) before (p.empty (eqb-eq (count_of h t) 0 e)))))
@@ -164,12 +164,12 @@ is_placed_by l h t p =
     last true f = f refl
     last false f = refl
 
-abbrev directory_tests : Form → Header → List (Option Damage)
+abbrev directory_tests : Layout → Header → List (Option Damage)
 directory_tests l h =
     place_fault l h 1 ∷ place_fault l h 2 ∷ place_fault l h 3 ∷ place_fault l h 4 ∷ place_fault l h 5 ∷ place_fault l h 6
     ∷ place_fault l h 7 ∷ unless (eqb (end_of l h 7) h.file_length) (Directory 7 0) ∷ []
 
-pub record AreLaid (l : Form) (h : Header) : Type 0 where
+pub record AreLaid (l : Layout) (h : Header) : Type 0 where
   pub placed : (t : ℕ) → 1 ≤ t → t ≤ 7 → IsPlaced l h t
   pub whole : end_of l h 7 ≡ h.file_length
 
@@ -183,7 +183,7 @@ seven_cases P a b c d e f g (suc (suc (suc (suc (suc zero))))) h = f
 seven_cases P a b c d e f g (suc (suc (suc (suc (suc (suc zero)))))) h = g
 seven_cases P a b c d e f g (suc (suc (suc (suc (suc (suc (suc s))))))) h = absurd (omega arith)
 
-pub are_laid : (l : Form) (h : Header) → directory_fault l h ≡ None → AreLaid l h
+pub are_laid : (l : Layout) (h : Header) → directory_fault l h ≡ None → AreLaid l h
 unfolding directory_fault
 are_laid l h e =
     let a = all_none (directory_tests l h) e in
@@ -193,7 +193,7 @@ are_laid l h e =
       whole = eqb-eq (end_of l h 7) h.file_length (unless_none (eqb (end_of l h 7) h.file_length) (Directory 7 0) a.1.1.1.1.1.1.1.0);
     }
 
-pub laid_are : (l : Form) (h : Header) → AreLaid l h → directory_fault l h ≡ None
+pub laid_are : (l : Layout) (h : Header) → AreLaid l h → directory_fault l h ≡ None
 unfolding directory_fault
 laid_are l h e =
     let p : (t : ℕ) → 1 ≤ t → t ≤ 7 → place_fault l h t ≡ None = λ t low high. none_unless (is_placed l h t) (Directory t 0) (is_placed_by l h t (e.placed t low high)) in
@@ -216,7 +216,7 @@ laid_are l h e =
 
 -- ---- opening
 
-abbrev opening_tests : Form → List ℕ → ℕ → List (Option Damage)
+abbrev opening_tests : Layout → List ℕ → ℕ → List (Option Damage)
 opening_tests l b n =
     unless (leb HEADER_BYTES n && eqb (gate_in b) 1) (NotOpen n (gate_in b))
     ∷ option_map (λ field. WrongHeader field) (header_fault l b)
@@ -228,7 +228,7 @@ pub map_none : (o : Option HeaderField) → option_map (λ field. WrongHeader fi
 map_none None h = refl
 map_none (Some f) h = absurd (none-some _ (sym h))
 
-pub opens_where_nothing : (l : Form) (b : List ℕ) → opening l b (length b) ≡ None → Opens l b
+pub opens_where_nothing : (l : Layout) (b : List ℕ) → opening l b (length b) ≡ None → Opens l b
 unfolding opening
 opens_where_nothing l b h =
     let a = all_none (opening_tests l b (length b)) h in
@@ -245,7 +245,7 @@ opens_where_nothing l b h =
       laid_out = record { least = right.size.0; greatest = right.size.1; counts = right.counts; placed = laid.placed; whole = laid.whole };
     }
 
-pub nothing_where_opens : (l : Form) (b : List ℕ) → Opens l b → opening l b (length b) ≡ None
+pub nothing_where_opens : (l : Layout) (b : List ℕ) → Opens l b → opening l b (length b) ≡ None
 unfolding opening
 nothing_where_opens l b h =
     let right = right_header l b (record { name = h.name; size = (h.laid_out.least, h.laid_out.greatest); zeros = h.zeros; counts = h.laid_out.counts }) in

@@ -7,7 +7,7 @@ use Rattle.std.proofs.lemmas.List.Elements.{All-get_or}
 use Rattle.std.proofs.Math.Nat.{div-eq_of_lt-le}
 use Rattle.pos_rice.specs.Park.{AreNumbers}
 use Rattle.pos_layout.specs.Bytes.{part}
-use Rattle.pos_layout.specs.Forms.{Form, IsForm, entry_bytes, parks_of}
+use Rattle.pos_layout.specs.Layouts.{Layout, IsLayout, entry_bytes, parks_of}
 use Rattle.pos_layout.specs.Lists.{IsTable}
 use Rattle.pos_layout.specs.Fields.{entry_fields}
 use Rattle.pos_layout.specs.Files.{park_of, cut, parks_in, park_bytes, entry_for, directory}
@@ -57,7 +57,7 @@ cut-count full (suc most) (n ∷ ns) some h =
         let b = rest.needed in
         record { enough = omega arith; needed = omega arith; none = λ e. absurd (omega arith) }
 
-pub parks_in-get : (l : Form) (ns : List ℕ) (j : ℕ) → 1 ≤ l.full → get_or (parks_in l ns) j [] ≡ part ns (l.full * j) l.full
+pub parks_in-get : (l : Layout) (ns : List ℕ) (j : ℕ) → 1 ≤ l.full → get_or (parks_in l ns) j [] ≡ part ns (l.full * j) l.full
 unfolding parks_in
 parks_in-get l ns j some = cut-get l.full (length ns) ns j some (omega arith)
 
@@ -69,7 +69,7 @@ length-part_of ns at n = length-take n (drop at ns) ∙ ap (min n) (length-drop 
 
 -- ---- how many parks there are, and how long they are
 
-pub length-parks_in : (l : Form) (ns : List ℕ) → 1 ≤ l.full → length (parks_in l ns) ≡ parks_of l (length ns)
+pub length-parks_in : (l : Layout) (ns : List ℕ) → 1 ≤ l.full → length (parks_in l ns) ≡ parks_of l (length ns)
 unfolding parks_in
 length-parks_in l ns some =
     let c = cut-count l.full (length ns) ns some (omega arith) in
@@ -78,8 +78,8 @@ length-parks_in l ns some =
     sym (div-eq_of_lt-le {k = length (cut l.full (length ns) ns)} l.full {m = length ns + (l.full - 1)} (omega arith) (omega arith))
 
 -- so each has numbers that a park can hold
-pub parks_in-numbers : (l : Form) (k : ℕ) (ns : List ℕ) (j : ℕ) → IsForm l → IsTable k ns → j < length (parks_in l ns) → AreNumbers k (get_or (parks_in l ns) j [])
-parks_in-numbers l k ns j form table h = All-get_or (AreNumbers k) (parks_in l ns) j [] h (parks_in-are l k ns form table).each
+pub parks_in-numbers : (l : Layout) (k : ℕ) (ns : List ℕ) (j : ℕ) → IsLayout l → IsTable k ns → j < length (parks_in l ns) → AreNumbers k (get_or (parks_in l ns) j [])
+parks_in-numbers l k ns j layout table h = All-get_or (AreNumbers k) (parks_in l ns) j [] h (parks_in-are l k ns layout table).each
 
 cut-concat : (full most : ℕ) (ns : List ℕ) → 1 ≤ full → length ns ≤ most → concat (cut full most ns) ≡ ns
 unfolding cut
@@ -90,7 +90,7 @@ cut-concat full (suc most) (n ∷ ns) some h =
     let less : length (drop full (n ∷ ns)) ≤ most = simp length-drop (omega arith) in
     ap (λ z. take full (n ∷ ns) ++ z) (cut-concat full most (drop full (n ∷ ns)) some less) ∙ take-append-drop full (n ∷ ns)
 
-pub concat-parks_in : (l : Form) (ns : List ℕ) → 1 ≤ l.full → concat (parks_in l ns) ≡ ns
+pub concat-parks_in : (l : Layout) (ns : List ℕ) → 1 ≤ l.full → concat (parks_in l ns) ≡ ns
 unfolding parks_in
 concat-parks_in l ns some = cut-concat l.full (length ns) ns some (omega arith)
 
@@ -137,7 +137,7 @@ parks_to b k at [] h = has_none b at
 parks_to b k at (ns ∷ parks) h =
     join b at (park_of k ns) _ (h 0 (omega arith)) (parks_to b k (at + length (park_of k ns)) parks (λ j l. h (suc j) (omega arith)))
 
-pub entries_from : (l : Form) (b : List ℕ) (k t dir at : ℕ) (parks : List (List ℕ)) (j : ℕ) → IsForm l → Has b dir (directory l k t at parks) → j < length parks
+pub entries_from : (l : Layout) (b : List ℕ) (k t dir at : ℕ) (parks : List (List ℕ)) (j : ℕ) → IsLayout l → Has b dir (directory l k t at parks) → j < length parks
     → Has b (dir + entry_bytes l * j) (entry_fields (entry_for l k t (starts k at parks j) (get_or parks j [])))
 unfolding starts directory
 entries_from l b k t dir at [] j d h i = absurd (omega arith)
@@ -150,7 +150,7 @@ entries_from l b k t dir at (ns ∷ parks) (suc j) d h i =
     let back : Has b (dir + entry_bytes l) (directory l k t (at + length (park_of k ns)) parks) = has_at b _ _ _ (ap (λ m. dir + m) n) (has_back b dir (entry_fields (entry_for l k t at ns)) _ h) in
     has_at b _ _ _ e (entries_from l b k t (dir + entry_bytes l) (at + length (park_of k ns)) parks j d back (omega arith))
 
-pub entries_to : (l : Form) (b : List ℕ) (k t dir at : ℕ) (parks : List (List ℕ)) → IsForm l
+pub entries_to : (l : Layout) (b : List ℕ) (k t dir at : ℕ) (parks : List (List ℕ)) → IsLayout l
     → ((j : ℕ) → j < length parks → Has b (dir + entry_bytes l * j) (entry_fields (entry_for l k t (starts k at parks j) (get_or parks j []))))
     → Has b dir (directory l k t at parks)
 unfolding starts directory
@@ -163,7 +163,7 @@ entries_to l b k t dir at (ns ∷ parks) d h =
     let back = entries_to l b k t (dir + entry_bytes l) (at + length (park_of k ns)) parks d each in
     join b dir _ _ (has_at b _ _ _ e0 (h 0 (omega arith))) (has_at b _ _ _ (ap (λ m. dir + m) (sym n)) back)
 
-pub length-directory : (l : Form) (k t at : ℕ) (parks : List (List ℕ)) → IsForm l → length (directory l k t at parks) ≡ entry_bytes l * length parks
+pub length-directory : (l : Layout) (k t at : ℕ) (parks : List (List ℕ)) → IsLayout l → length (directory l k t at parks) ≡ entry_bytes l * length parks
 unfolding directory
 length-directory l k t at [] d = omega arith
 length-directory l k t at (ns ∷ parks) d =

@@ -5,7 +5,7 @@ use Rattle.std.proofs.Math.Pow.{pow_mono}
 use Rattle.pos_layout.specs.declared.header.Column.{Column}
 use Rattle.pos_layout.specs.declared.header.Header.{Header}
 use Rattle.pos_layout.specs.declared.header.TheConstants.{HEADER_BYTES}
-use Rattle.pos_layout.specs.Forms.{Form, IsForm}
+use Rattle.pos_layout.specs.Layouts.{Layout, IsLayout}
 use Rattle.pos_layout.specs.Lists.{IsTable, IsPlot}
 use Rattle.pos_lists.specs.PlotLists.{PlotLists, numbers}
 use Rattle.pos_layout.specs.Fields.{header_bytes, header_in, column_of, count_of, end_of}
@@ -28,14 +28,14 @@ column_of-suc h s = let e : suc s - 1 ≡ s = omega arith in ap (λ j. get_or h.
 -- ---- tables, where they stand
 
 -- a table that its column tells of
-column_there : (l : Form) (b : List ℕ) (s : ℕ) (ns : List ℕ) (c : Column)
+column_there : (l : Layout) (b : List ℕ) (s : ℕ) (ns : List ℕ) (c : Column)
     → get_or (header_in b).columns s no_column ≡ c → c.count ≡ length ns → c.directory ≡ end_of l (header_in b) s + length (park_bytes (header_in b).size (parks_in l ns))
     → Has b (end_of l (header_in b) s) (table_bytes l (header_in b).size (suc s) (end_of l (header_in b) s) ns) → TableAt l b s ns
 column_there l b s ns c e n d h =
     let is = column_of-suc (header_in b) s ∙ e in
     record { count = ap (λ (c : Column). c.count) is ∙ n; directory = ap (λ (c : Column). c.directory) is ∙ d; bytes = h }
 
-first_table : (l : Form) (b : List ℕ) (s : ℕ) (ns : List ℕ) (tables : List (List ℕ))
+first_table : (l : Layout) (b : List ℕ) (s : ℕ) (ns : List ℕ) (tables : List (List ℕ))
     → ((j : ℕ) → j < length (ns ∷ tables) → get_or (header_in b).columns (s + j) no_column ≡ get_or (columns_for l (header_in b).size (suc s) (end_of l (header_in b) s) (ns ∷ tables)) j no_column)
     → Has b (end_of l (header_in b) s) (tables_bytes l (header_in b).size (suc s) (end_of l (header_in b) s) (ns ∷ tables)) → TableAt l b s ns
 unfolding columns_for tables_bytes
@@ -43,77 +43,77 @@ first_table l b s ns tables cs h =
     let e : s ≡ s + 0 = omega arith in
     column_there l b s ns _ (ap (λ j. get_or (header_in b).columns j no_column) e ∙ cs 0 (omega arith)) refl refl (has_front b _ (table_bytes l (header_in b).size (suc s) (end_of l (header_in b) s) ns) _ h)
 
-pub tables_from : (l : Form) (b : List ℕ) (tables : List (List ℕ)) (s i : ℕ) → IsForm l
+pub tables_from : (l : Layout) (b : List ℕ) (tables : List (List ℕ)) (s i : ℕ) → IsLayout l
     → ((j : ℕ) → j < length tables → get_or (header_in b).columns (s + j) no_column ≡ get_or (columns_for l (header_in b).size (suc s) (end_of l (header_in b) s) tables) j no_column)
     → Has b (end_of l (header_in b) s) (tables_bytes l (header_in b).size (suc s) (end_of l (header_in b) s) tables)
     → i < length tables → TableAt l b (s + i) (get_or tables i [])
 unfolding columns_for tables_bytes
-tables_from l b [] s i form cs h less = absurd (omega arith)
-tables_from l b (ns ∷ tables) s zero form cs h less =
+tables_from l b [] s i layout cs h less = absurd (omega arith)
+tables_from l b (ns ∷ tables) s zero layout cs h less =
     let e : s + 0 ≡ s = omega arith in
     subst (λ j. TableAt l b j ns) (sym e) (first_table l b s ns tables cs h)
-tables_from l b (ns ∷ tables) s (suc i) form cs h less =
+tables_from l b (ns ∷ tables) s (suc i) layout cs h less =
     let k = (header_in b).size in
     let at = end_of l (header_in b) s in
     let e : suc s + i ≡ s + suc i = omega arith in
     let first = first_table l b s ns tables cs h in
-    let next = TableAt-end l b s ns form first in
+    let next = TableAt-end l b s ns layout first in
     let cols : (j : ℕ) → j < length tables → get_or (header_in b).columns (suc s + j) no_column ≡ get_or (columns_for l k (suc (suc s)) (end_of l (header_in b) (suc s)) tables) j no_column =
     λ j less'. let e' : suc s + j ≡ s + suc j = omega arith in
     ap (λ n. get_or (header_in b).columns n no_column) e' ∙ (cs (suc j) (omega arith) ∙ ap (λ n. get_or (columns_for l k (suc (suc s)) n tables) j no_column) (sym next)) in
     let rest : Has b (end_of l (header_in b) (suc s)) (tables_bytes l k (suc (suc s)) (end_of l (header_in b) (suc s)) tables) =
     subst (λ n. Has b n (tables_bytes l k (suc (suc s)) n tables)) (sym next) (has_back b at (table_bytes l k (suc s) at ns) _ h) in
-    subst (λ j. TableAt l b j (get_or tables i [])) e (tables_from l b tables (suc s) i form cols rest (omega arith))
+    subst (λ j. TableAt l b j (get_or tables i [])) e (tables_from l b tables (suc s) i layout cols rest (omega arith))
 
-at_first : (l : Form) (b : List ℕ) (s : ℕ) (ns : List ℕ) (tables : List (List ℕ)) → ((i : ℕ) → i < length (ns ∷ tables) → TableAt l b (s + i) (get_or (ns ∷ tables) i [])) → TableAt l b s ns
+at_first : (l : Layout) (b : List ℕ) (s : ℕ) (ns : List ℕ) (tables : List (List ℕ)) → ((i : ℕ) → i < length (ns ∷ tables) → TableAt l b (s + i) (get_or (ns ∷ tables) i [])) → TableAt l b s ns
 at_first l b s ns tables h = let e : s + 0 ≡ s = omega arith in subst (λ j. TableAt l b j ns) e (h 0 (omega arith))
 
-at_rest : (l : Form) (b : List ℕ) (s : ℕ) (ns : List ℕ) (tables : List (List ℕ)) → ((i : ℕ) → i < length (ns ∷ tables) → TableAt l b (s + i) (get_or (ns ∷ tables) i []))
+at_rest : (l : Layout) (b : List ℕ) (s : ℕ) (ns : List ℕ) (tables : List (List ℕ)) → ((i : ℕ) → i < length (ns ∷ tables) → TableAt l b (s + i) (get_or (ns ∷ tables) i []))
     → (i : ℕ) → i < length tables → TableAt l b (suc s + i) (get_or tables i [])
 at_rest l b s ns tables h i less = let e : s + suc i ≡ suc s + i = omega arith in subst (λ j. TableAt l b j (get_or tables i [])) e (h (suc i) (omega arith))
 
 -- from the tables back to the bytes after the header, the columns, and the end
-pub tables_there : (l : Form) (b : List ℕ) (tables : List (List ℕ)) (s : ℕ) → IsForm l → ((i : ℕ) → i < length tables → TableAt l b (s + i) (get_or tables i []))
+pub tables_there : (l : Layout) (b : List ℕ) (tables : List (List ℕ)) (s : ℕ) → IsLayout l → ((i : ℕ) → i < length tables → TableAt l b (s + i) (get_or tables i []))
     → Has b (end_of l (header_in b) s) (tables_bytes l (header_in b).size (suc s) (end_of l (header_in b) s) tables)
 unfolding tables_bytes
-tables_there l b [] s form h = has_none b _
-tables_there l b (ns ∷ tables) s form h =
+tables_there l b [] s layout h = has_none b _
+tables_there l b (ns ∷ tables) s layout h =
     let k = (header_in b).size in
     let at = end_of l (header_in b) s in
     let first = at_first l b s ns tables h in
-    let next = TableAt-end l b s ns form first in
-    let rest = tables_there l b tables (suc s) form (at_rest l b s ns tables h) in
+    let next = TableAt-end l b s ns layout first in
+    let rest = tables_there l b tables (suc s) layout (at_rest l b s ns tables h) in
     join b at (table_bytes l k (suc s) at ns) _ first.bytes (subst (λ n. Has b n (tables_bytes l k (suc (suc s)) n tables)) next rest)
 
-pub columns_are : (l : Form) (b : List ℕ) (tables : List (List ℕ)) (s : ℕ) → IsForm l → ((i : ℕ) → i < length tables → TableAt l b (s + i) (get_or tables i []))
+pub columns_are : (l : Layout) (b : List ℕ) (tables : List (List ℕ)) (s : ℕ) → IsLayout l → ((i : ℕ) → i < length tables → TableAt l b (s + i) (get_or tables i []))
     → (j : ℕ) → j < length tables → get_or (header_in b).columns (s + j) no_column ≡ get_or (columns_for l (header_in b).size (suc s) (end_of l (header_in b) s) tables) j no_column
 unfolding columns_for
-columns_are l b [] s form h j less = absurd (omega arith)
-columns_are l b (ns ∷ tables) s form h zero less =
+columns_are l b [] s layout h j less = absurd (omega arith)
+columns_are l b (ns ∷ tables) s layout h zero less =
     let e : s + 0 ≡ s = omega arith in
     let first = at_first l b s ns tables h in
     ap (λ j. get_or (header_in b).columns j no_column) e ∙ (sym (column_of-suc (header_in b) s) ∙ column_from _ _ _ _ first.count first.directory)
-columns_are l b (ns ∷ tables) s form h (suc j) less =
+columns_are l b (ns ∷ tables) s layout h (suc j) less =
     let e : s + suc j ≡ suc s + j = omega arith in
-    let next = TableAt-end l b s ns form (at_first l b s ns tables h) in
-    ap (λ j. get_or (header_in b).columns j no_column) e ∙ (columns_are l b tables (suc s) form (at_rest l b s ns tables h) j (omega arith)
+    let next = TableAt-end l b s ns layout (at_first l b s ns tables h) in
+    ap (λ j. get_or (header_in b).columns j no_column) e ∙ (columns_are l b tables (suc s) layout (at_rest l b s ns tables h) j (omega arith)
     ∙ ap (λ n. get_or (columns_for l (header_in b).size (suc (suc s)) n tables) j no_column) next)
 
-pub tables_end : (l : Form) (b : List ℕ) (tables : List (List ℕ)) (s : ℕ) → IsForm l → ((i : ℕ) → i < length tables → TableAt l b (s + i) (get_or tables i []))
+pub tables_end : (l : Layout) (b : List ℕ) (tables : List (List ℕ)) (s : ℕ) → IsLayout l → ((i : ℕ) → i < length tables → TableAt l b (s + i) (get_or tables i []))
     → end_of l (header_in b) (s + length tables) ≡ end_of l (header_in b) s + length (tables_bytes l (header_in b).size (suc s) (end_of l (header_in b) s) tables)
 unfolding tables_bytes
-tables_end l b [] s form h = let e : s + 0 ≡ s = omega arith in ap (end_of l (header_in b)) e ∙ omega arith
-tables_end l b (ns ∷ tables) s form h =
+tables_end l b [] s layout h = let e : s + 0 ≡ s = omega arith in ap (end_of l (header_in b)) e ∙ omega arith
+tables_end l b (ns ∷ tables) s layout h =
     let k = (header_in b).size in
     let at = end_of l (header_in b) s in
     let e : s + suc (length tables) ≡ suc s + length tables = omega arith in
-    let next = TableAt-end l b s ns form (at_first l b s ns tables h) in
-    let rest = tables_end l b tables (suc s) form (at_rest l b s ns tables h) ∙ ap (λ n. n + length (tables_bytes l k (suc (suc s)) n tables)) next in
+    let next = TableAt-end l b s ns layout (at_first l b s ns tables h) in
+    let rest = tables_end l b tables (suc s) layout (at_rest l b s ns tables h) ∙ ap (λ n. n + length (tables_bytes l k (suc (suc s)) n tables)) next in
     ap (end_of l (header_in b)) e ∙ (rest ∙ simp length-append (omega arith))
 
 -- ---- lengths
 
-columns-fit : (l : Form) (k t at : ℕ) (tables : List (List ℕ)) → at + length (tables_bytes l k t at tables) < 2 ^ 64 → 2 ^ (k + 1) < 2 ^ 64 → All (IsTable k) tables → All ColumnFits (columns_for l k t at tables)
+columns-fit : (l : Layout) (k t at : ℕ) (tables : List (List ℕ)) → at + length (tables_bytes l k t at tables) < 2 ^ 64 → 2 ^ (k + 1) < 2 ^ 64 → All (IsTable k) tables → All ColumnFits (columns_for l k t at tables)
 unfolding columns_for tables_bytes table_bytes
 columns-fit l k t at [] room small each = All-nil ColumnFits
 columns-fit l k t at (ns ∷ tables) room small each =
@@ -125,7 +125,7 @@ columns-fit l k t at (ns ∷ tables) room small each =
     (columns-fit l k (suc t) (at + length (table_bytes l k t at ns)) tables (omega arith) small (All-tail (IsTable k) ns tables each))
 
 -- a table without numbers has no park
-no_parks : (l : Form) (k : ℕ) (ns : List ℕ) → length ns ≡ 0 → length (park_bytes k (parks_in l ns)) ≡ 0
+no_parks : (l : Layout) (k : ℕ) (ns : List ℕ) → length ns ≡ 0 → length (park_bytes k (parks_in l ns)) ≡ 0
 unfolding parks_in park_bytes cut
 no_parks l k [] e = refl
 no_parks l k (n ∷ ns) e = absurd (omega arith)
@@ -137,7 +137,7 @@ each P h (suc s) low high = h s (omega arith)
 
 -- ---- the file of a plot
 
-module _ (l : Form) (p : PlotLists) (form : IsForm l) (plot : IsPlot p) where
+module _ (l : Layout) (p : PlotLists) (layout : IsLayout l) (plot : IsPlot p) where
   powers : 2 ^ (p.k + 1) ≤ 2 ^ 33
   powers = let g = plot.greatest in let h : p.k + 1 ≤ 33 = omega arith in pow_mono h
 
@@ -149,7 +149,7 @@ module _ (l : Form) (p : PlotLists) (form : IsForm l) (plot : IsPlot p) where
   body-short =
       let w = powers in
       let n = plot.seven in
-      let s = tables_bytes-short l p.k 1 HEADER_BYTES p.tables form size-fits plot.tables in
+      let s = tables_bytes-short l p.k 1 HEADER_BYTES p.tables layout size-fits plot.tables in
       let m : length p.tables * 2 ^ (p.k + 1) ≡ 7 * 2 ^ (p.k + 1) = ap (λ n. n * 2 ^ (p.k + 1)) plot.seven in
       omega arith
 
@@ -163,7 +163,7 @@ module _ (l : Form) (p : PlotLists) (form : IsForm l) (plot : IsPlot p) where
   }
 
   header-length : length (header_bytes l 1 (header_of l p)) ≡ HEADER_BYTES
-  header-length = let f = header-fits in length-header_bytes l 1 (header_of l p) form.name_length f.id f.seven
+  header-length = let f = header-fits in length-header_bytes l 1 (header_of l p) layout.name_length f.id f.seven
 
   in_file : Has (file_of l p) 0 (header_bytes l 1 (header_of l p) ++ body_of l p)
   unfolding file_with
@@ -177,7 +177,7 @@ module _ (l : Form) (p : PlotLists) (form : IsForm l) (plot : IsPlot p) where
   file-length = length-append (header_bytes l 1 (header_of l p)) (body_of l p) ∙ ap (λ n. n + length (body_of l p)) header-length
 
   read : HeaderRead l 1 (header_of l p) (file_of l p)
-  read = header_read l 1 (header_of l p) (file_of l p) form.name_length header-fits (has_front (file_of l p) 0 (header_bytes l 1 (header_of l p)) (body_of l p) in_file)
+  read = header_read l 1 (header_of l p) (file_of l p) layout.name_length header-fits (has_front (file_of l p) 0 (header_bytes l 1 (header_of l p)) (body_of l p) in_file)
 
   file_columns : (j : ℕ) → j < length p.tables
       → get_or (header_in (file_of l p)).columns (0 + j) no_column ≡ get_or (columns_for l (header_in (file_of l p)).size 1 (end_of l (header_in (file_of l p)) 0) p.tables) j no_column
@@ -195,7 +195,7 @@ module _ (l : Form) (p : PlotLists) (form : IsForm l) (plot : IsPlot p) where
   file_tables s less =
       let e : 0 + s ≡ s = omega arith in
       let n = plot.seven in
-      subst (λ j. TableAt l (file_of l p) j (get_or p.tables s [])) e (tables_from l (file_of l p) p.tables 0 s form file_columns file_body (omega arith))
+      subst (λ j. TableAt l (file_of l p) j (get_or p.tables s [])) e (tables_from l (file_of l p) p.tables 0 s layout file_columns file_body (omega arith))
 
   last-is : end_of l (header_in (file_of l p)) 7 ≡ length (file_of l p)
   unfolding header_of end_of body_of
@@ -204,7 +204,7 @@ module _ (l : Form) (p : PlotLists) (form : IsForm l) (plot : IsPlot p) where
       let each : (i : ℕ) → i < length p.tables → TableAt l (file_of l p) (0 + i) (get_or p.tables i []) =
       λ i less. let e : i ≡ 0 + i = omega arith in subst (λ j. TableAt l (file_of l p) j (get_or p.tables i [])) e (file_tables i (omega arith)) in
       let z : 7 ≡ 0 + length p.tables = omega arith in
-      ap (end_of l (header_in (file_of l p))) z ∙ (tables_end l (file_of l p) p.tables 0 form each
+      ap (end_of l (header_in (file_of l p))) z ∙ (tables_end l (file_of l p) p.tables 0 layout each
       ∙ (ap (λ (h : Header). HEADER_BYTES + length (tables_bytes l h.size 1 HEADER_BYTES p.tables)) read.header ∙ sym file-length))
 
   said-is : (header_in (file_of l p)).file_length ≡ length (file_of l p)
@@ -225,7 +225,7 @@ module _ (l : Form) (p : PlotLists) (form : IsForm l) (plot : IsPlot p) where
       let same = ap (end_of l (header_in (file_of l p))) seven ∙ last-is in
       omega arith
   end-le (suc d) s e =
-      let next = TableAt-end l (file_of l p) s _ form (file_tables s (omega arith)) in
+      let next = TableAt-end l (file_of l p) s _ layout (file_tables s (omega arith)) in
       let more = end-le d (suc s) (omega arith) in
       omega arith
 
@@ -237,7 +237,7 @@ module _ (l : Form) (p : PlotLists) (form : IsForm l) (plot : IsPlot p) where
 
   stored_table : (s : ℕ) → s < 7 → StoresTable l (file_of l p) (suc s) (get_or p.tables s [])
   stored_table s less = stores_table l (file_of l p) s (get_or p.tables s []) (record {
-    form = form;
+    layout = layout;
     table = subst (λ k. IsTable k (get_or p.tables s [])) (sym size-is) (table-is s less);
     small = let e = size-is in let g = size-fits in omega arith;
     room = let e = end-le (7 - suc s) (suc s) (omega arith) in let f = file-short in omega arith;

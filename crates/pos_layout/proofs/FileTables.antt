@@ -13,7 +13,7 @@ use Rattle.pos_rice.specs.Park.{AreNumbers, Park}
 use Rattle.pos_rice.proofs.ParkLemmas.{Park-short, Park-one_list_of_numbers}
 use Rattle.pos_layout.specs.declared.header.Header.{Header}
 use Rattle.pos_layout.specs.declared.entry.ParkEntry.{ParkEntry}
-use Rattle.pos_layout.specs.Forms.{Form, IsForm, entry_bytes, longest_park, parks_of}
+use Rattle.pos_layout.specs.Layouts.{Layout, IsLayout, entry_bytes, longest_park, parks_of}
 use Rattle.pos_layout.specs.Lists.{IsTable}
 use Rattle.pos_lists.specs.PlotLists.{f7_in}
 use Rattle.pos_layout.specs.Fields.{header_in, count_of, directory_of, end_of, entry_in, entry_fields, park_in}
@@ -26,27 +26,27 @@ use Rattle.pos_layout.proofs.NumberLemmas.{park_of-is, park_of-only, park_of-som
 use Rattle.pos_layout.proofs.FileParks.{parks_in-get, parks_in-numbers, length-parks_in, concat-parks_in, length-part_of, starts, starts-first, starts-next, starts-last, starts-le, parks_from, parks_to, entries_from, entries_to, length-directory}
 
 -- Table s + 1 of b has these numbers: so says the header, and there stand its parks and its directory.
-pub record TableAt (l : Form) (b : List ℕ) (s : ℕ) (ns : List ℕ) : Type 0 where
+pub record TableAt (l : Layout) (b : List ℕ) (s : ℕ) (ns : List ℕ) : Type 0 where
   pub count : count_of (header_in b) (suc s) ≡ length ns
   pub directory : directory_of (header_in b) (suc s) ≡ end_of l (header_in b) s + length (park_bytes (header_in b).size (parks_in l ns))
   pub bytes : Has b (end_of l (header_in b) s) (table_bytes l (header_in b).size (suc s) (end_of l (header_in b) s) ns)
 
-pub length-table_bytes : (l : Form) (k t at : ℕ) (ns : List ℕ) → IsForm l → length (table_bytes l k t at ns) ≡ length (park_bytes k (parks_in l ns)) + entry_bytes l * parks_of l (length ns)
+pub length-table_bytes : (l : Layout) (k t at : ℕ) (ns : List ℕ) → IsLayout l → length (table_bytes l k t at ns) ≡ length (park_bytes k (parks_in l ns)) + entry_bytes l * parks_of l (length ns)
 unfolding table_bytes
-length-table_bytes l k t at ns form =
-    let some = form.some in
+length-table_bytes l k t at ns layout =
+    let some = layout.some in
     length-append (park_bytes k (parks_in l ns)) (directory l k t at (parks_in l ns))
-    ∙ ap (λ n. length (park_bytes k (parks_in l ns)) + n) (length-directory l k t at (parks_in l ns) form ∙ ap (λ n. entry_bytes l * n) (length-parks_in l ns (omega arith)))
+    ∙ ap (λ n. length (park_bytes k (parks_in l ns)) + n) (length-directory l k t at (parks_in l ns) layout ∙ ap (λ n. entry_bytes l * n) (length-parks_in l ns (omega arith)))
 
-pub end_of-next : (l : Form) (h : Header) (s : ℕ) → end_of l h (suc s) ≡ directory_of h (suc s) + entry_bytes l * parks_of l (count_of h (suc s))
+pub end_of-next : (l : Layout) (h : Header) (s : ℕ) → end_of l h (suc s) ≡ directory_of h (suc s) + entry_bytes l * parks_of l (count_of h (suc s))
 unfolding end_of
 end_of-next l h s = refl
 
-pub TableAt-end : (l : Form) (b : List ℕ) (s : ℕ) (ns : List ℕ) → IsForm l → TableAt l b s ns
+pub TableAt-end : (l : Layout) (b : List ℕ) (s : ℕ) (ns : List ℕ) → IsLayout l → TableAt l b s ns
     → end_of l (header_in b) (suc s) ≡ end_of l (header_in b) s + length (table_bytes l (header_in b).size (suc s) (end_of l (header_in b) s) ns)
-TableAt-end l b s ns form h =
+TableAt-end l b s ns layout h =
     let h0 = header_in b in
-    let n = length-table_bytes l h0.size (suc s) (end_of l h0 s) ns form in
+    let n = length-table_bytes l h0.size (suc s) (end_of l h0 s) ns layout in
     let e = end_of-next l h0 s ∙ ap (λ c. directory_of h0 (suc s) + entry_bytes l * parks_of l c) h.count in
     let d = h.directory in
     omega arith
@@ -54,21 +54,21 @@ TableAt-end l b s ns form h =
 -- ---- from the bytes to the rules
 
 -- what a table needs for that
-pub record TableFits (l : Form) (b : List ℕ) (s : ℕ) (ns : List ℕ) : Type 0 where
-  pub form : IsForm l
+pub record TableFits (l : Layout) (b : List ℕ) (s : ℕ) (ns : List ℕ) : Type 0 where
+  pub layout : IsLayout l
   pub table : IsTable (header_in b).size ns
   pub small : (header_in b).size ≤ 50
   pub room : end_of l (header_in b) (suc s) < 2 ^ 64
   pub at : TableAt l b s ns
 
-fits-numbers : (l : Form) (b : List ℕ) (s : ℕ) (ns : List ℕ) (j : ℕ) → TableFits l b s ns → j < length (parks_in l ns) → AreNumbers (header_in b).size (get_or (parks_in l ns) j [])
-fits-numbers l b s ns j h i = parks_in-numbers l (header_in b).size ns j h.form h.table i
+fits-numbers : (l : Layout) (b : List ℕ) (s : ℕ) (ns : List ℕ) (j : ℕ) → TableFits l b s ns → j < length (parks_in l ns) → AreNumbers (header_in b).size (get_or (parks_in l ns) j [])
+fits-numbers l b s ns j h i = parks_in-numbers l (header_in b).size ns j h.layout h.table i
 
-fits-parks : (l : Form) (b : List ℕ) (s : ℕ) (ns : List ℕ) → TableFits l b s ns → Has b (end_of l (header_in b) s) (park_bytes (header_in b).size (parks_in l ns))
+fits-parks : (l : Layout) (b : List ℕ) (s : ℕ) (ns : List ℕ) → TableFits l b s ns → Has b (end_of l (header_in b) s) (park_bytes (header_in b).size (parks_in l ns))
 unfolding table_bytes
 fits-parks l b s ns h = has_front b _ _ (directory l (header_in b).size (suc s) (end_of l (header_in b) s) (parks_in l ns)) h.at.bytes
 
-fits-directory : (l : Form) (b : List ℕ) (s : ℕ) (ns : List ℕ) → TableFits l b s ns
+fits-directory : (l : Layout) (b : List ℕ) (s : ℕ) (ns : List ℕ) → TableFits l b s ns
     → Has b (directory_of (header_in b) (suc s)) (directory l (header_in b).size (suc s) (end_of l (header_in b) s) (parks_in l ns))
 unfolding table_bytes
 fits-directory l b s ns h = has_at b _ _ _ (sym h.at.directory) (has_back b _ (park_bytes (header_in b).size (parks_in l ns)) _ h.at.bytes)
@@ -80,9 +80,9 @@ head-fits k t ns h numbers = cases (eqb t 7)
     cases true = let small = head_fits k ns h numbers in omega arith
     cases false = omega arith
 
-entry_for-fits : (l : Form) (k t at : ℕ) (ns : List ℕ) → IsForm l → k ≤ 50 → AreNumbers k ns → at < 2 ^ 64 → EntryFits l (entry_for l k t at ns)
+entry_for-fits : (l : Layout) (k t at : ℕ) (ns : List ℕ) → IsLayout l → k ≤ 50 → AreNumbers k ns → at < 2 ^ 64 → EntryFits l (entry_for l k t at ns)
 unfolding entry_for
-entry_for-fits l k t at ns form h numbers low =
+entry_for-fits l k t at ns layout h numbers low =
     let short = Park-short k ns (park_of k ns) (park_of-is k ns numbers) in
     let few = numbers.few in
     let wide : (2 * k + 4) * length ns ≤ 104 * length ns = mul-le-mul_right (length ns) (omega arith) in
@@ -90,11 +90,11 @@ entry_for-fits l k t at ns form h numbers low =
       offset = low;
       park_length = omega arith;
       count = omega arith;
-      digest = length-take-le l.digest (sha256 (park_of k ns)) (omega (arith, length-sha256 (park_of k ns), form.digest));
+      digest = length-take-le l.digest (sha256 (park_of k ns)) (omega (arith, length-sha256 (park_of k ns), layout.digest));
       head = head-fits k t ns h numbers;
     }
 
-fits-entry : (l : Form) (b : List ℕ) (s : ℕ) (ns : List ℕ) (j : ℕ) → TableFits l b s ns → j < length (parks_in l ns)
+fits-entry : (l : Layout) (b : List ℕ) (s : ℕ) (ns : List ℕ) (j : ℕ) → TableFits l b s ns → j < length (parks_in l ns)
     → entry_in l b (suc s) j ≡ entry_for l (header_in b).size (suc s) (starts (header_in b).size (end_of l (header_in b) s) (parks_in l ns) j) (get_or (parks_in l ns) j [])
 unfolding entry_in
 fits-entry l b s ns j h i =
@@ -104,21 +104,21 @@ fits-entry l b s ns j h i =
     let dir = h.at.directory in
     let next = end_of-next l (header_in b) s in
     let room = h.room in
-    entry_read l b _ _ (entry_for-fits l k (suc s) _ _ h.form h.small (fits-numbers l b s ns j h i) (omega arith))
-    (entries_from l b k (suc s) (directory_of (header_in b) (suc s)) at (parks_in l ns) j h.form (fits-directory l b s ns h) i)
+    entry_read l b _ _ (entry_for-fits l k (suc s) _ _ h.layout h.small (fits-numbers l b s ns j h i) (omega arith))
+    (entries_from l b k (suc s) (directory_of (header_in b) (suc s)) at (parks_in l ns) j h.layout (fits-directory l b s ns h) i)
 
 -- the park of the entry
-fits-park : (l : Form) (b : List ℕ) (s : ℕ) (ns : List ℕ) (j : ℕ) → TableFits l b s ns → j < length (parks_in l ns)
+fits-park : (l : Layout) (b : List ℕ) (s : ℕ) (ns : List ℕ) (j : ℕ) → TableFits l b s ns → j < length (parks_in l ns)
     → park_in b (entry_in l b (suc s) j) ≡ park_of (header_in b).size (get_or (parks_in l ns) j [])
 unfolding entry_for
 fits-park l b s ns j h i =
     let k = (header_in b).size in
     ap (park_in b) (fits-entry l b s ns j h i) ∙ at_entry l b k (suc s) _ _ (parks_from b k (end_of l (header_in b) s) (parks_in l ns) j (fits-parks l b s ns h) i)
   where
-    at_entry : (l : Form) (b : List ℕ) (k t at : ℕ) (ns : List ℕ) → Has b at (park_of k ns) → park_in b (entry_for l k t at ns) ≡ park_of k ns
+    at_entry : (l : Layout) (b : List ℕ) (k t at : ℕ) (ns : List ℕ) → Has b at (park_of k ns) → park_in b (entry_for l k t at ns) ≡ park_of k ns
     at_entry l b k t at ns h = h.is
 
-fits-start : (l : Form) (b : List ℕ) (s : ℕ) (ns : List ℕ) (j : ℕ) → TableFits l b s ns → j ≤ length (parks_in l ns)
+fits-start : (l : Layout) (b : List ℕ) (s : ℕ) (ns : List ℕ) (j : ℕ) → TableFits l b s ns → j ≤ length (parks_in l ns)
     → park_start l b (suc s) j ≡ starts (header_in b).size (end_of l (header_in b) s) (parks_in l ns) j
 unfolding park_start entry_for
 fits-start l b s ns zero h i =
@@ -130,25 +130,25 @@ fits-start l b s ns (suc j) h i =
     ap (λ (e : ParkEntry). e.offset + e.park_length) (fits-entry l b s ns j h (omega arith)) ∙ sym (starts-next k at (parks_in l ns) j (omega arith))
 
 -- a park within its limit
-pub park_of-within : (l : Form) (k : ℕ) (ns : List ℕ) → IsForm l → k ≤ 50 → AreNumbers k ns → length ns ≤ l.full → length (park_of k ns) ≤ longest_park l k
-park_of-within l k ns form h numbers few =
+pub park_of-within : (l : Layout) (k : ℕ) (ns : List ℕ) → IsLayout l → k ≤ 50 → AreNumbers k ns → length ns ≤ l.full → length (park_of k ns) ≤ longest_park l k
+park_of-within l k ns layout h numbers few =
     let short = Park-short k ns (park_of k ns) (park_of-is k ns numbers) in
-    let some = form.some in
+    let some = layout.some in
     cases (cases_lt 32 k) short
   where
     cases : 32 < k ⊎ k ≤ 32 → 8 * length (park_of k ns) ≤ (2 * k + 4) * length ns + 12 → length (park_of k ns) ≤ longest_park l k
     cases (inr low) short =
         let t : leb k 32 ≡ true = grind (arith, nat_tests) in
-        let some = form.some in
+        let some = layout.some in
         let wide : (2 * k + 4) * length ns ≤ 68 * length ns = mul-le-mul_right (length ns) (omega arith) in
         rw t (omega arith)
     cases (inl high) short =
         let t : leb k 32 ≡ false = grind (arith, nat_tests) in
-        let some = form.some in
+        let some = layout.some in
         let wide : (2 * k + 4) * length ns ≤ 104 * length ns = mul-le-mul_right (length ns) (omega arith) in
         rw t (omega arith)
 
-pub stores_table : (l : Form) (b : List ℕ) (s : ℕ) (ns : List ℕ) → TableFits l b s ns → StoresTable l b (suc s) ns
+pub stores_table : (l : Layout) (b : List ℕ) (s : ℕ) (ns : List ℕ) → TableFits l b s ns → StoresTable l b (suc s) ns
 unfolding entry_for
 stores_table l b s ns h = record {
   count = sym h.at.count;
@@ -159,7 +159,7 @@ stores_table l b s ns h = record {
 }
   where
     some : 1 ≤ l.full
-    some = let g = h.form.some in omega arith
+    some = let g = h.layout.some in omega arith
 
     count : length (parks_in l ns) ≡ parks_of l (length ns)
     count = length-parks_in l ns some
@@ -177,7 +177,7 @@ stores_table l b s ns h = record {
         let few : length ns' ≤ l.full = omega (arith, ap length (parks_in-get l ns j some), length-part_of ns (l.full * j) l.full) in
         record {
           some = subst (λ n. 1 ≤ n) (sym (ap (λ (e : ParkEntry). e.park_length) e)) (park_of-some k ns' numbers);
-          short = subst (λ n. n ≤ longest_park l k) (sym (ap (λ (e : ParkEntry). e.park_length) e)) (park_of-within l k ns' h.form h.small numbers few);
+          short = subst (λ n. n ≤ longest_park l k) (sym (ap (λ (e : ParkEntry). e.park_length) e)) (park_of-within l k ns' h.layout h.small numbers few);
           count = ap (λ (e : ParkEntry). e.count) e;
           head = ap (λ (e : ParkEntry). e.head) e;
           digest = ap (λ (e : ParkEntry). e.digest) e ∙ ap (λ s. take l.digest (sha256 s)) (sym p);
@@ -190,9 +190,9 @@ All-concat P (ns ∷ parks) h = All-append P ns (concat parks) (h 0 (omega arith
 
 -- ---- from the rules to the bytes
 
-module _ (l : Form) (b : List ℕ) (s : ℕ) (ns : List ℕ) (form : IsForm l) (bytes_ : AreBytes b) (room : end_of l (header_in b) (suc s) ≤ length b) (st : StoresTable l b (suc s) ns) where
+module _ (l : Layout) (b : List ℕ) (s : ℕ) (ns : List ℕ) (layout : IsLayout l) (bytes_ : AreBytes b) (room : end_of l (header_in b) (suc s) ≤ length b) (st : StoresTable l b (suc s) ns) where
   some_full : 1 ≤ l.full
-  some_full = let g = form.some in omega arith
+  some_full = let g = layout.some in omega arith
 
   park_count_is : length (parks_in l ns) ≡ parks_of l (length ns)
   park_count_is = length-parks_in l ns some_full
@@ -266,7 +266,7 @@ module _ (l : Form) (b : List ℕ) (s : ℕ) (ns : List ℕ) (form : IsForm l) (
       entry_there l b (directory_of (header_in b) (suc s) + entry_bytes l * j) bytes_ (omega arith)
 
   entries_there : Has b (directory_of (header_in b) (suc s)) (directory l (header_in b).size (suc s) (end_of l (header_in b) s) (parks_in l ns))
-  entries_there = entries_to l b (header_in b).size (suc s) (directory_of (header_in b) (suc s)) (end_of l (header_in b) s) (parks_in l ns) form
+  entries_there = entries_to l b (header_in b).size (suc s) (directory_of (header_in b) (suc s)) (end_of l (header_in b) s) (parks_in l ns) layout
       (λ j i. has_same b _ _ _ (ap entry_fields (entry-is j i)) (entry-there j i))
 
   pub table_there : TableAt l b s ns
@@ -287,12 +287,12 @@ module _ (l : Form) (b : List ℕ) (s : ℕ) (ns : List ℕ) (form : IsForm l) (
 
 -- ---- one list for a table
 
-pub one_table : (l : Form) (b : List ℕ) (t : ℕ) (ms ns : List ℕ) → IsForm l → (header_in b).size < 64 → StoresTable l b t ms → StoresTable l b t ns → ms ≡ ns
-one_table l b t ms ns form small p q =
+pub one_table : (l : Layout) (b : List ℕ) (t : ℕ) (ms ns : List ℕ) → IsLayout l → (header_in b).size < 64 → StoresTable l b t ms → StoresTable l b t ns → ms ≡ ns
+one_table l b t ms ns layout small p q =
     sym (concat-parks_in l ms some) ∙ (ap concat (ext_get_or [] (parks_in l ms) (parks_in l ns) count same) ∙ concat-parks_in l ns some)
   where
     some : 1 ≤ l.full
-    some = let g = form.some in omega arith
+    some = let g = layout.some in omega arith
 
     long : length ms ≡ length ns
     long = p.count ∙ sym q.count

@@ -15,7 +15,7 @@ use Rattle.pos_rice.specs.Park.{AreNumbers, IsLow, Park, mean_step, park_bits, s
 use Rattle.pos_rice.proofs.ParkLemmas.{far, Park-one_list_of_bytes, Park-short}
 use Rattle.sha2.specs.Sha256.{sha256}
 use Rattle.pos_layout.specs.declared.entry.ParkEntry.{ParkEntry}
-use Rattle.pos_layout.specs.Forms.{Form}
+use Rattle.pos_layout.specs.Layouts.{Layout}
 use Rattle.pos_layout.specs.Rules.{head_of}
 use Rattle.pos_layout.specs.Files.{digits_to, low_bits, park_of, entry_for}
 use Rattle.pos_layout.proofs.CodecLemmas.{entry_from}
@@ -171,7 +171,7 @@ head_fits k ns small h =
     omega arith
 
 -- the entry that is made of a park is the one for its numbers
-pub entry_for-is : (l : Form) (k t at : ℕ) (ns s d : List ℕ) (h : ℕ) → Park k ns s → d ≡ take l.digest (sha256 s) → h ≡ head_of k t ns
+pub entry_for-is : (l : Layout) (k t at : ℕ) (ns s d : List ℕ) (h : ℕ) → Park k ns s → d ≡ take l.digest (sha256 s) → h ≡ head_of k t ns
     → ◌≡◌ {A = ParkEntry} (record { offset = at; park_length = length s; count = length ns; digest = d; head = h }) (entry_for l k t at ns)
 unfolding entry_for
 entry_for-is l k t at ns s d h p ed eh =

@@ -13,7 +13,7 @@ use Rattle.pos_layout.specs.declared.entry.ParkEntry.{ParkEntry}
 use Rattle.pos_layout.specs.declared.damage.Damage.{Damage}
 use Rattle.pos_layout.specs.declared.damage.Damage.TheVariants.{Pointer}
 use Rattle.pos_layout.specs.Bytes.{part}
-use Rattle.pos_layout.specs.Forms.{own, longest_park, park_count}
+use Rattle.pos_layout.specs.Layouts.{own, longest_park, park_count}
 use Rattle.pos_layout.specs.Fields.{count_of, directory_of, end_of, header_in}
 use Rattle.pos_layout.specs.Lists.{points_inside}
 use Rattle.pos_layout.specs.Reading.{tested, is_listed, is_headed, numbers_by, read_entry, read_park, num, head, under}

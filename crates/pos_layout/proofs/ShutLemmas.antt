@@ -8,8 +8,8 @@ use Rattle.pos_edge.specs.View.{View, IsDisk}
 use Rattle.pos_edge.specs.Frame.{ChangesFile, NameOf}
 use Rattle.pos_edge.specs.Images.{written, Tears, Stays, ImagesBy, IsAbsentOrEmpty}
 use Rattle.pos_edge.specs.Calls.{IsThere, IsCreated, IsWritten, IsSynced, SameContents}
-use Rattle.pos_edge.proofs.Frames.{each_then, each_step, each_weaker, file_then}
-use Rattle.pos_layout.specs.Images.{IsTiny, IsShut, IsTinyOrShut, IsButGate, IsShutOr, EachImageOf, HasBytes, IsFresh, HoldsShut, Holds, opened}
+use Rattle.pos_edge.proofs.Frames.{each_then, each_step, each_weaker}
+use Rattle.pos_layout.specs.Images.{IsTiny, IsShut, IsButGate, EachImageOf, HasBytes, IsFresh, HoldsShut, Holds, opened}
 
 -- ---- bytes
 

@@ -8,7 +8,7 @@ use Rattle.pos_layout.proofs.RangeLemmas.{inside_in_range}
 use Rattle.pos_layout.proofs.ReadingLemmas.{eq_true, eq_false, eq_means, listed_by_head, or_true, or_false, park_found, same_bytes, numbers-all, headed_elsewhere, headed_right, pointed_first, head_found, num_found, tested_true, under_found}
 use Rattle.pos_layout.specs.declared.damage.Damage.TheVariants.{Directory, Pointer}
 use Rattle.pos_layout.specs.Bytes.{part}
-use Rattle.pos_layout.specs.Forms.{own, park_count, parks_of}
+use Rattle.pos_layout.specs.Layouts.{own, park_count, parks_of}
 use Rattle.pos_layout.specs.Fields.{count_of, directory_of, end_of, entry_in, header_in, park_in}
 use Rattle.pos_layout.specs.Lists.{points_inside}
 use Rattle.pos_lists.specs.PlotLists.{PlotLists, count, f7_in, numbers}

@@ -5,15 +5,13 @@ use Rattle.std.proofs.lemmas.Bool.{false≢true, true≢false}
 use Rattle.pos_edge.specs.declared.scratch.WorkFault.{WorkFault}
 use Rattle.pos_edge.specs.declared.scratch.WorkFault.TheVariants.{DiskFailed, Memory}
 use Rattle.pos_edge.specs.View.{View}
-use Rattle.pos_edge.specs.Faults.{Rose}
-use Rattle.pos_edge.specs.Frame.{ChangesOnly, ChangesFile, FileBeside, KeepsIds, SameFaults, Nothing, Just, NameOf}
+use Rattle.pos_edge.specs.Frame.{ChangesOnly, ChangesFile, FileBeside, KeepsIds, Nothing, Just, NameOf}
 use Rattle.pos_edge.specs.Images.{written, Tears, Stays}
-use Rattle.pos_edge.specs.Calls.{IsThere}
-use Rattle.pos_edge.proofs.Frames.{each_then, each_beside, file_then, file_beside, frame_none, frame_wider}
+use Rattle.pos_edge.proofs.Frames.{each_beside, file_then, file_beside, frame_none}
 use Rattle.pos_edge.proofs.FaultLemmas.{faults_then}
 use Rattle.pos_edge.proofs.FaultLemmas.{Rose-since}
-use Rattle.pos_layout.specs.Forms.{Form}
-use Rattle.pos_layout.specs.Drafts.{Draft, WriterState, Keeps, Stands, IsWriteFault, draft_bytes}
+use Rattle.pos_layout.specs.Layouts.{Layout}
+use Rattle.pos_layout.specs.Drafts.{Draft, WriterState, Stands, draft_bytes}
 use Rattle.pos_layout.specs.Images.{IsTiny, IsShut, IsButGate, EachImageOf, HasBytes, IsFresh, HoldsShut, Holds, opened}
 use Rattle.pos_layout.specs.Writing.{Works, WorksBy, WritesOnly, with_numbers}
 use Rattle.pos_layout.proofs.ShutLemmas.{images_step, images_then, images_weaker, images_end, still_there, Tears-tiny, Tears-shut, Stays-keeps, written-gate}
@@ -162,7 +160,7 @@ holds_beside names ids file bytes a b kept other apart held =
     }
 
 -- the writer stands for its draft as before
-pub stands_beside : (l : Form) (w : WriterState) (p : Draft) (names : List ℕ → Type 0) (ids : ℕ → Type 0) (a b : View) → ChangesOnly names ids a b
+pub stands_beside : (l : Layout) (w : WriterState) (p : Draft) (names : List ℕ → Type 0) (ids : ℕ → Type 0) (a b : View) → ChangesOnly names ids a b
     → (ids w.file → ⊥) → ((n : List ℕ) → NameOf w.file a n → names n → ⊥) → Stands l w p a → Stands l w p b
 stands_beside l w p names ids a b kept other apart s = record {
   parks = s.parks;
@@ -184,10 +182,10 @@ stands_beside l w p names ids a b kept other apart s = record {
 }
 
 -- what a writer stands for is live, and its file has a closed gate
-pub stands_live : (l : Form) (w : WriterState) (p : Draft) (v : View) → Stands l w p v → v.is_live w.file ≡ true
+pub stands_live : (l : Layout) (w : WriterState) (p : Draft) (v : View) → Stands l w p v → v.is_live w.file ≡ true
 stands_live l w p v s = s.keeps.file.bytes.live
 
-pub stands_shut : (l : Form) (w : WriterState) (p : Draft) (v : View) (s : Stands l w p v) → HoldsShut w.file (draft_bytes l p s.parks) v
+pub stands_shut : (l : Layout) (w : WriterState) (p : Draft) (v : View) (s : Stands l w p v) → HoldsShut w.file (draft_bytes l p s.parks) v
 stands_shut l w p v s = s.keeps.file
 
 -- ---- drafts

@@ -14,7 +14,7 @@ use Rattle.pos_rice.specs.Park.{AreNumbers, Park}
 use Rattle.pos_edge.specs.View.{View}
 use Rattle.pos_layout.specs.declared.header.Column.{Column}
 use Rattle.pos_layout.specs.declared.header.Header.{Header}
-use Rattle.pos_layout.specs.Forms.{Form, IsForm, own}
+use Rattle.pos_layout.specs.Layouts.{Layout, IsLayout, own}
 use Rattle.pos_layout.specs.Fields.{entry_fields, header_bytes}
 use Rattle.pos_layout.specs.Lists.{IsTable, IsPlot}
 use Rattle.pos_layout.specs.Files.{park_of, cut, parks_in, park_bytes, entry_for, directory, table_bytes, tables_bytes, columns_for, body_of, header_of, file_with, file_of}
@@ -26,7 +26,7 @@ use Rattle.pos_layout.proofs.FileLemmas.{park_bytes-push, directory-push, tables
 
 -- ---- what follows from what is kept
 
-pub keeps_numbers : (l : Form) (w : WriterState) (p : Draft) (parks : List (List ℕ)) (v : View) → Keeps l w p parks v → 1 ≤ length w.park → length w.park ≤ MOST_NUMBERS
+pub keeps_numbers : (l : Layout) (w : WriterState) (p : Draft) (parks : List (List ℕ)) (v : View) → Keeps l w p parks v → 1 ≤ length w.park → length w.park ≤ MOST_NUMBERS
     → AreNumbers p.k w.park
 keeps_numbers l w p parks v h some few = record {
   some = some;
@@ -35,7 +35,7 @@ keeps_numbers l w p parks v h some few = record {
   below = All-end (λ n. n < 2 ^ (2 * p.k + 2)) (concat parks) w.park (subst (All (λ n. n < 2 ^ (2 * p.k + 2))) h.numbers h.draft.numbers.below);
 }
 
-pub length-draft : (l : Form) (p : Draft) (parks : List (List ℕ)) → length (draft_bytes l p parks) ≡ table_start l p + length (park_bytes p.k parks)
+pub length-draft : (l : Layout) (p : Draft) (parks : List (List ℕ)) → length (draft_bytes l p parks) ≡ table_start l p + length (park_bytes p.k parks)
 length-draft l p parks =
     let t = tables_bytes l p.k 1 176 p.ended in
     let b = park_bytes p.k parks in
@@ -43,16 +43,16 @@ length-draft l p parks =
     omega (arith, length-append (replicate 176 0) (t ++ b), length-append t b)
 
 -- all that is written and the directory so far fit in less than 2^61 bytes
-pub keeps_short : (l : Form) (w : WriterState) (p : Draft) (parks : List (List ℕ)) (v : View) → IsForm l → Keeps l w p parks v
+pub keeps_short : (l : Layout) (w : WriterState) (p : Draft) (parks : List (List ℕ)) (v : View) → IsLayout l → Keeps l w p parks v
     → w.file_length + length w.entries ≤ 176 + 71 * (8 * 2 ^ 51)
-keeps_short l w p parks v form h =
+keeps_short l w p parks v layout h =
     let small = h.draft.greatest in
     let x : 2 ^ (p.k + 1) ≤ 2 ^ 51 = let size : p.k + 1 ≤ 51 = omega arith in pow_mono size in
     let few = h.draft.few in
     let m : length p.ended * 2 ^ (p.k + 1) ≤ 7 * 2 ^ 51 = mul-le-mul few x in
-    let t = tables_bytes-short l p.k 1 176 p.ended form (omega arith) h.draft.ended in
+    let t = tables_bytes-short l p.k 1 176 p.ended layout (omega arith) h.draft.ended in
     let a = park_bytes-short p.k parks (omega arith) h.written in
-    let b = directory-short l p.k (suc (length p.ended)) (table_start l p) parks form h.written in
+    let b = directory-short l p.k (suc (length p.ended)) (table_start l p) parks layout h.written in
     let n : length p.numbers ≡ length (concat parks) + length w.park = ap length h.numbers ∙ length-append (concat parks) w.park in
     let some = h.draft.numbers.few in
     let d = length-draft l p parks in
@@ -66,16 +66,16 @@ pub numbers_at : (k k' : ℕ) (ns ns' : List ℕ) → k ≡ k' → ns ≡ ns' �
 numbers_at k k' ns ns' ek en h = subst (λ j. AreNumbers j ns) (sym ek) (subst (AreNumbers k') (sym en) h)
 
 -- a park more still fits
-pub grown_fits : (l : Form) (w : WriterState) (p : Draft) (parks : List (List ℕ)) (v : View) (s : List ℕ) (n : ℕ) → Keeps l w p parks v → Park w.size w.park s → length w.park ≤ 2048
-    → n ≡ length s → IsForm l → w.file_length + n < 2 ^ 62
-grown_fits l w p parks v s n h park few is form =
-    let short = keeps_short l w p parks v form h in
+pub grown_fits : (l : Layout) (w : WriterState) (p : Draft) (parks : List (List ℕ)) (v : View) (s : List ℕ) (n : ℕ) → Keeps l w p parks v → Park w.size w.park s → length w.park ≤ 2048
+    → n ≡ length s → IsLayout l → w.file_length + n < 2 ^ 62
+grown_fits l w p parks v s n h park few is layout =
+    let short = keeps_short l w p parks v layout h in
     let small = h.draft.greatest in
     let size = h.size in
     let one = park_fits w.size w.park s (omega arith) park in
     omega arith
 
-pub kept_park : (l : Form) (w w' : WriterState) (p : Draft) (parks : List (List ℕ)) (s : List ℕ) (k t at : ℕ) (v v' : View) → Keeps l w p parks v → Park w.size w.park s
+pub kept_park : (l : Layout) (w w' : WriterState) (p : Draft) (parks : List (List ℕ)) (s : List ℕ) (k t at : ℕ) (v v' : View) → Keeps l w p parks v → Park w.size w.park s
     → k ≡ w.size → t ≡ length w.columns + 1 → at ≡ w.file_length
     → w'.id ≡ w.id → w'.size ≡ w.size → w'.columns ≡ w.columns → w'.count ≡ w.count → w'.least ≡ w.least → w'.park ≡ [] → w'.entries ≡ w.entries ++ entry_fields (entry_for l k t at w.park)
     → w'.file_length ≡ w.file_length + length s → HoldsShut w'.file (draft_bytes l p parks ++ s) v' → Keeps l w' p (parks ++ w.park ∷ []) v'
@@ -113,7 +113,7 @@ kept_park l w w' p parks s k t at v v' h park ek et ea wi ws wc wn wl wp we wf f
 
 -- ---- a table
 
-pub kept_table : (l : Form) (w w' : WriterState) (p : Draft) (v v' : View) → Keeps l w p (parks_in l p.numbers) v → length w.columns < 7
+pub kept_table : (l : Layout) (w w' : WriterState) (p : Draft) (v v' : View) → Keeps l w p (parks_in l p.numbers) v → length w.columns < 7
     → w'.id ≡ w.id → w'.size ≡ w.size → w'.columns ≡ w.columns ++ record { count = w.count; directory = w.file_length } ∷ [] → w'.count ≡ 0 → w'.least ≡ 0 → w'.park ≡ [] → w'.entries ≡ []
     → w'.file_length ≡ w.file_length + length w.entries → HoldsShut w'.file (draft_bytes l p (parks_in l p.numbers) ++ w.entries) v' → Keeps l w' (table_ended p) [] v'
 unfolding next_after park_bytes directory table_bytes
@@ -171,7 +171,7 @@ next_after-above (m ∷ ns) n h some =
     let e : length (m ∷ ns) - 1 ≡ length ns = omega arith in
     subst (λ i. get_or (m ∷ ns) i 0 < n) (sym e) (omega arith)
 
-pub kept_number : (l : Form) (w w' : WriterState) (p : Draft) (parks : List (List ℕ)) (n : ℕ) (v : View) → Keeps l w p parks v → length w.columns < 7 → w.least ≤ n
+pub kept_number : (l : Layout) (w w' : WriterState) (p : Draft) (parks : List (List ℕ)) (n : ℕ) (v : View) → Keeps l w p parks v → length w.columns < 7 → w.least ≤ n
     → n < 2 ^ (2 * w.size + 2) → w.count < 2 ^ (w.size + 1)
     → w'.file ≡ w.file → w'.id ≡ w.id → w'.size ≡ w.size → w'.columns ≡ w.columns → w'.count ≡ w.count + 1 → w'.least ≡ n + 1 → w'.park ≡ w.park ++ n ∷ [] → w'.entries ≡ w.entries
     → w'.file_length ≡ w.file_length → Keeps l w' (added n p) parks v
@@ -211,8 +211,8 @@ small_bytes : (b : List ℕ) → list_all (λ x. ltb x 256) b ≡ true → AreBy
 small_bytes [] h = All-nil (λ x. x < 256)
 small_bytes (x ∷ b) h = let both = and_parts (ltb x 256) (list_all (λ x. ltb x 256) b) h in All-cons (λ x. x < 256) x b (ltb-true x 256 both.0) (small_bytes b both.1)
 
-pub own_form : IsForm own
-own_form = record {
+pub own_layout : IsLayout own
+own_layout = record {
   name_length = refl;
   name_bytes = small_bytes own.name refl;
   some = omega arith;
@@ -283,7 +283,7 @@ begun_stands w id k v il ib low high wi ws wc wn wl wp we wf file = record {
 }
 
 -- a full park written
-pub full_stands : (l : Form) (w w' : WriterState) (p : Draft) (parks : List (List ℕ)) (v : View) → 1 ≤ l.full → All (λ (ns : List ℕ). length ns ≡ l.full) parks → length w.park ≡ l.full
+pub full_stands : (l : Layout) (w w' : WriterState) (p : Draft) (parks : List (List ℕ)) (v : View) → 1 ≤ l.full → All (λ (ns : List ℕ). length ns ≡ l.full) parks → length w.park ≡ l.full
     → w'.park ≡ [] → Keeps l w' p (parks ++ w.park ∷ []) v → Stands l w' p v
 full_stands l w w' p parks v some all full empty keeps = record {
   parks = parks ++ w.park ∷ [];
@@ -293,19 +293,19 @@ full_stands l w w' p parks v some all full empty keeps = record {
 }
 
 -- the parks of a table whose numbers are all written
-pub parks_whole : (l : Form) (w : WriterState) (p : Draft) (v : View) → 1 ≤ l.full → (s : Stands l w p v) → w.park ≡ [] → parks_in l p.numbers ≡ s.parks
+pub parks_whole : (l : Layout) (w : WriterState) (p : Draft) (v : View) → 1 ≤ l.full → (s : Stands l w p v) → w.park ≡ [] → parks_in l p.numbers ≡ s.parks
 unfolding parks_in
 parks_whole l w p v some s empty =
     let e : p.numbers ≡ concat s.parks = s.keeps.numbers ∙ (ap (λ y. concat s.parks ++ y) empty ∙ append-nil (concat s.parks)) in
     ap (λ y. cut l.full (length y) y) e ∙ cut-whole l.full (length (concat s.parks)) s.parks some s.full (omega arith)
 
-pub parks_last : (l : Form) (w : WriterState) (p : Draft) (v : View) → 1 ≤ l.full → (s : Stands l w p v) → 1 ≤ length w.park → parks_in l p.numbers ≡ s.parks ++ w.park ∷ []
+pub parks_last : (l : Layout) (w : WriterState) (p : Draft) (v : View) → 1 ≤ l.full → (s : Stands l w p v) → 1 ≤ length w.park → parks_in l p.numbers ≡ s.parks ++ w.park ∷ []
 unfolding parks_in
 parks_last l w p v some s more =
     let short = s.short in
     ap (λ y. cut l.full (length y) y) s.keeps.numbers ∙ cut-full l.full (length (concat s.parks ++ w.park)) s.parks w.park some s.full (omega arith) more (omega arith)
 
-pub next_fits : (l : Form) (w : WriterState) (p : Draft) (v : View) (n : ℕ) → Stands l w p v → n < 2 ^ (2 * w.size + 2) → n < 2 ^ 66
+pub next_fits : (l : Layout) (w : WriterState) (p : Draft) (v : View) (n : ℕ) → Stands l w p v → n < 2 ^ (2 * w.size + 2) → n < 2 ^ 66
 next_fits l w p v n s h =
     let small = s.keeps.draft.greatest in
     let size = s.keeps.size in
@@ -313,7 +313,7 @@ next_fits l w p v n s h =
     let most : 2 ^ (2 * w.size + 2) ≤ 2 ^ 66 = pow_mono width in
     omega arith
 
-pub count_fits : (l : Form) (w : WriterState) (p : Draft) (v : View) (n : ℕ) → Stands l w p v → n < 2 ^ (w.size + 1) → n < 2 ^ 33
+pub count_fits : (l : Layout) (w : WriterState) (p : Draft) (v : View) (n : ℕ) → Stands l w p v → n < 2 ^ (w.size + 1) → n < 2 ^ 33
 count_fits l w p v n s h =
     let small = s.keeps.draft.greatest in
     let size = s.keeps.size in
@@ -331,13 +331,13 @@ no_parks full (p ∷ parks) rest some all e =
     absurd (omega (arith, length-append (concat (p ∷ parks)) rest, length-append p (concat parks)))
 
 -- all seven tables are ended, so no numbers are left
-pub all_ended : (l : Form) (w : WriterState) (p : Draft) (v : View) → 1 ≤ l.full → (s : Stands l w p v) → length w.columns ≡ 7 → (length p.ended ≡ 7) × (s.parks ≡ [])
+pub all_ended : (l : Layout) (w : WriterState) (p : Draft) (v : View) → 1 ≤ l.full → (s : Stands l w p v) → length w.columns ≡ 7 → (length p.ended ≡ 7) × (s.parks ≡ [])
 all_ended l w p v some s seven =
     let e : length p.ended ≡ 7 = sym (ap length s.keeps.columns ∙ length-columns_for l p.k 1 176 p.ended) ∙ seven in
     (e, no_parks l.full s.parks w.park some s.full (sym s.keeps.numbers ∙ s.keeps.draft.done e))
 
 -- what the header of the finished file says
-pub finished_header : (l : Form) (w : WriterState) (p : Draft) (v : View) (i : List ℕ) (k : ℕ) (cs : List Column) (n : ℕ) → 1 ≤ l.full → Stands l w p v → length w.columns ≡ 7
+pub finished_header : (l : Layout) (w : WriterState) (p : Draft) (v : View) (i : List ℕ) (k : ℕ) (cs : List Column) (n : ℕ) → 1 ≤ l.full → Stands l w p v → length w.columns ≡ 7
     → i ≡ w.id → k ≡ w.size → cs ≡ w.columns → n ≡ w.file_length → ◌≡◌ {A = Header} (record { id = record { 0 = i }; size = k; columns = cs; file_length = n }) (header_of l (plot_of p))
 unfolding header_of body_of park_bytes
 finished_header l w p v i k cs n some s seven ei ek ec en =
@@ -346,7 +346,7 @@ finished_header l w p v i k cs n some s seven ei ek ec en =
     en ∙ (s.keeps.file_length ∙ (length-draft l p s.parks ∙ (ap (λ ps. table_start l p + length (park_bytes p.k ps)) none ∙ omega arith))) in
     header_from i p.id k p.k cs (columns_for l p.k 1 176 p.ended) n (176 + length (tables_bytes l p.k 1 176 p.ended)) (ei ∙ s.keeps.id) (ek ∙ s.keeps.size) (ec ∙ s.keeps.columns) total
 
-pub finished_file : (l : Form) (w : WriterState) (p : Draft) (v : View) (h : Header) (header : List ℕ) → 1 ≤ l.full → (s : Stands l w p v) → length w.columns ≡ 7 → h ≡ header_of l (plot_of p)
+pub finished_file : (l : Layout) (w : WriterState) (p : Draft) (v : View) (h : Header) (header : List ℕ) → 1 ≤ l.full → (s : Stands l w p v) → length w.columns ≡ 7 → h ≡ header_of l (plot_of p)
     → header ≡ drop 1 (header_bytes l 0 h) → opened header (draft_bytes l p s.parks) ≡ file_of l (plot_of p)
 unfolding opened header_bytes file_with body_of park_bytes
 finished_file l w p v h header some s seven eh e =

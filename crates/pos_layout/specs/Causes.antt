@@ -7,7 +7,7 @@ use Rattle.pos_layout.specs.declared.damage.HeaderField.TheVariants.{Name, Size,
 use Rattle.pos_layout.specs.declared.damage.Damage.{Damage}
 use Rattle.pos_layout.specs.declared.damage.Damage.TheVariants.{NotOpen, Header as WrongHeader, Length, Directory}
 use Rattle.pos_layout.specs.declared.header.TheConstants.{HEADER_BYTES, LEAST_SIZE, GREATEST_SIZE}
-use Rattle.pos_layout.specs.Forms.{Form}
+use Rattle.pos_layout.specs.Layouts.{Layout}
 use Rattle.pos_layout.specs.Fields.{gate_in, name_in, zeros_in, header_in, count_of, end_of}
 use Rattle.pos_layout.specs.Rules.{IsPlaced}
 
@@ -24,27 +24,27 @@ abbrev pub AreCounts : Header → Type 0
 AreCounts h = (t : ℕ) → 1 ≤ t → t ≤ 7 → count_of h t ≤ 2 ^ (h.size + 1)
 
 -- the header's name, size, zeros and counts can be
-pub record HasRightHeader (l : Form) (b : List ℕ) : Type 0 where
+pub record HasRightHeader (l : Layout) (b : List ℕ) : Type 0 where
   pub name : name_in b ≡ l.name
   pub size : IsSize (header_in b).size
   pub zeros : zeros_in b ≡ replicate 7 0
   pub counts : AreCounts (header_in b)
 
 -- the field that is the first wrong one
-abbrev pub FieldCause : Form → List ℕ → HeaderField → Type 0
+abbrev pub FieldCause : Layout → List ℕ → HeaderField → Type 0
 FieldCause l b Name = name_in b ≢ l.name
 FieldCause l b Size = (name_in b ≡ l.name) × (¬ IsSize (header_in b).size)
 FieldCause l b Zeros = (name_in b ≡ l.name) × IsSize (header_in b).size × (zeros_in b ≢ replicate 7 0)
 FieldCause l b Counts = (name_in b ≡ l.name) × IsSize (header_in b).size × (zeros_in b ≡ replicate 7 0) × (¬ AreCounts (header_in b))
 
 -- table t is the first whose directory is misplaced, or all lie as they have to and the file does not end with the last
-abbrev pub PlaceCause : Form → Header → ℕ → Type 0
+abbrev pub PlaceCause : Layout → Header → ℕ → Type 0
 PlaceCause l h t =
     (1 ≤ t) × (t ≤ 7) × ((s : ℕ) → 1 ≤ s → s < t → IsPlaced l h s)
     × ((¬ IsPlaced l h t) ⊎ ((t ≡ 7) × IsPlaced l h 7 × (end_of l h 7 ≢ h.file_length)))
 
 -- what has to be wrong with a file for opening to find this damage
-abbrev pub OpeningCause : Form → List ℕ → Damage → Type 0
+abbrev pub OpeningCause : Layout → List ℕ → Damage → Type 0
 OpeningCause l b (NotOpen n gate) = (n ≡ length b) × (gate ≡ gate_in b) × (¬ IsGated b)
 OpeningCause l b (WrongHeader field) = IsGated b × FieldCause l b field
 OpeningCause l b (Length said found) = IsGated b × HasRightHeader l b × (said ≡ (header_in b).file_length) × (found ≡ length b) × (said ≢ found)

@@ -10,7 +10,7 @@ use Rattle.pos_layout.specs.declared.damage.HeaderField.TheVariants.{Name, Size,
 use Rattle.pos_layout.specs.declared.damage.Damage.{Damage}
 use Rattle.pos_layout.specs.declared.damage.Damage.TheVariants.{NotOpen, Header as WrongHeader, Length, Directory}
 use Rattle.pos_layout.specs.declared.header.TheConstants.{HEADER_BYTES, LEAST_SIZE, GREATEST_SIZE}
-use Rattle.pos_layout.specs.Forms.{Form}
+use Rattle.pos_layout.specs.Layouts.{Layout}
 use Rattle.pos_layout.specs.Fields.{gate_in, name_in, zeros_in, header_in, count_of, directory_of, end_of}
 
 -- what a test finds that has to hold
@@ -24,7 +24,7 @@ first_found (None ∷ tests) = first_found tests
 first_found (Some d ∷ tests) = Some d
 
 -- the tests of the header alone: name, size, zeros, counts
-unfoldable pub header_fault : Form → List ℕ → Option HeaderField
+unfoldable pub header_fault : Layout → List ℕ → Option HeaderField
 header_fault l b =
     let h = header_in b in
     first_found (
@@ -36,16 +36,16 @@ header_fault l b =
     )
 
 -- whether table t's directory lies after the table before and ends inside the file
-abbrev pub is_placed : Form → Header → ℕ → Bool
+abbrev pub is_placed : Layout → Header → ℕ → Bool
 is_placed l h t =
     nat_le (end_of l h (t - 1)) (directory_of h t) && nat_le (end_of l h t) h.file_length
     && (not (count_of h t == 0) || (directory_of h t == end_of l h (t - 1)))
 
-abbrev pub place_fault : Form → Header → ℕ → Option Damage
+abbrev pub place_fault : Layout → Header → ℕ → Option Damage
 place_fault l h t = unless (is_placed l h t) (Directory t 0)
 
 -- the tests of the directories' places, table by table, and that the file ends with the last one
-unfoldable pub directory_fault : Form → Header → Option Damage
+unfoldable pub directory_fault : Layout → Header → Option Damage
 directory_fault l h =
     first_found (
     place_fault l h 1 ∷ place_fault l h 2 ∷ place_fault l h 3 ∷ place_fault l h 4 ∷ place_fault l h 5 ∷ place_fault l h 6
@@ -53,7 +53,7 @@ directory_fault l h =
     )
 
 -- what opening a file of n bytes finds, by its first 176 bytes
-unfoldable pub opening : Form → List ℕ → ℕ → Option Damage
+unfoldable pub opening : Layout → List ℕ → ℕ → Option Damage
 opening l b n =
     let h = header_in b in
     first_found (

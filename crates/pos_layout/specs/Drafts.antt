@@ -9,7 +9,7 @@ use Rattle.pos_edge.specs.declared.scratch.WorkFault.{WorkFault}
 use Rattle.pos_edge.specs.declared.scratch.WorkFault.TheVariants.{DiskFailed, Memory}
 use Rattle.pos_layout.specs.declared.header.Column.{Column}
 use Rattle.pos_layout.specs.declared.header.TheConstants.{HEADER_BYTES, LEAST_SIZE, GREATEST_SIZE}
-use Rattle.pos_layout.specs.Forms.{Form}
+use Rattle.pos_layout.specs.Layouts.{Layout}
 use Rattle.pos_layout.specs.Lists.{IsTable}
 use Rattle.pos_lists.specs.PlotLists.{PlotLists}
 use Rattle.pos_layout.specs.Files.{park_bytes, directory, tables_bytes, columns_for, file_of}
@@ -88,15 +88,15 @@ pub record SameTable (old new : WriterState) : Type 0 where
   pub least : new.least ≡ old.least
 
 -- where the open table begins in the file
-abbrev pub table_start : Form → Draft → ℕ
+abbrev pub table_start : Layout → Draft → ℕ
 table_start l p = HEADER_BYTES + length (tables_bytes l p.k 1 HEADER_BYTES p.ended)
 
 -- the bytes of a draft of which these parks of the open table are in the file: a header of zeros, the ended tables, the parks
-abbrev pub draft_bytes : Form → Draft → List (List ℕ) → List ℕ
+abbrev pub draft_bytes : Layout → Draft → List (List ℕ) → List ℕ
 draft_bytes l p parks = replicate HEADER_BYTES 0 ++ (tables_bytes l p.k 1 HEADER_BYTES p.ended ++ park_bytes p.k parks)
 
 -- The writer keeps this draft, with these parks of the open table in the file.
-pub record Keeps (l : Form) (w : WriterState) (p : Draft) (parks : List (List ℕ)) (view : View) : Type 0 where
+pub record Keeps (l : Layout) (w : WriterState) (p : Draft) (parks : List (List ℕ)) (view : View) : Type 0 where
   pub draft : IsDraft p
   pub id : w.id ≡ p.id
   pub size : w.size ≡ p.k
@@ -110,7 +110,7 @@ pub record Keeps (l : Form) (w : WriterState) (p : Draft) (parks : List (List �
   pub file : HoldsShut w.file (draft_bytes l p parks) view
 
 -- The writer stands for this draft: all its numbers are in the file but for fewer than a full park has.
-pub record Stands (l : Form) (w : WriterState) (p : Draft) (view : View) : Type 0 where
+pub record Stands (l : Layout) (w : WriterState) (p : Draft) (view : View) : Type 0 where
   pub parks : List (List ℕ)
   pub keeps : Keeps l w p parks view
   pub full : All (λ (ns : List ℕ). length ns ≡ l.full) parks
@@ -119,7 +119,7 @@ pub record Stands (l : Form) (w : WriterState) (p : Draft) (view : View) : Type 
 -- ---- what it leaves
 
 -- the whole file of a plot is on the disk, of this length
-pub record IsFinished (l : Form) (file : ℕ) (p : PlotLists) (total : ℕ) (view : View) : Type 0 where
+pub record IsFinished (l : Layout) (file : ℕ) (p : PlotLists) (total : ℕ) (view : View) : Type 0 where
   pub size : total ≡ length (file_of l p)
   pub bytes : Holds file (file_of l p) view
   pub stores : Stores l (file_of l p) p

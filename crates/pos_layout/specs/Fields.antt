@@ -11,7 +11,7 @@ use Rattle.pos_layout.specs.declared.header.Header.{Header}
 use Rattle.pos_layout.specs.declared.entry.ParkEntry.{ParkEntry}
 use Rattle.pos_layout.specs.declared.header.TheConstants.{HEADER_BYTES}
 use Rattle.pos_layout.specs.Bytes.{part, four, eight, four_at, eight_at}
-use Rattle.pos_layout.specs.Forms.{Form, entry_bytes, parks_of}
+use Rattle.pos_layout.specs.Layouts.{Layout, entry_bytes, parks_of}
 
 -- ---- as they are written
 
@@ -22,8 +22,8 @@ unfoldable pub columns_bytes : List Column → List ℕ
 columns_bytes [] = []
 columns_bytes (c ∷ cs) = column_bytes c ++ columns_bytes cs
 
--- the header of a file of this form, with this gate
-unfoldable pub header_bytes : Form → ℕ → Header → List ℕ
+-- the header of a file of this layout, with this gate
+unfoldable pub header_bytes : Layout → ℕ → Header → List ℕ
 header_bytes l gate h =
     gate ∷ (l.name ++ (h.id.0 ++ (h.size ∷ (replicate 7 0 ++ (columns_bytes h.columns ++ eight h.file_length)))))
 
@@ -55,7 +55,7 @@ header_in b = record {
 }
 
 -- the fields of an entry's bytes, whatever they are
-unfoldable pub entry_of : Form → List ℕ → ParkEntry
+unfoldable pub entry_of : Layout → List ℕ → ParkEntry
 entry_of l s = record {
   offset = eight_at s 0;
   park_length = four_at s 8;
@@ -76,12 +76,12 @@ abbrev pub directory_of : Header → ℕ → ℕ
 directory_of h t = (column_of h t).directory
 
 -- where table t ends, and with it its directory; table 1 begins after the header
-unfoldable pub end_of : Form → Header → ℕ → ℕ
+unfoldable pub end_of : Layout → Header → ℕ → ℕ
 end_of l h zero = HEADER_BYTES
 end_of l h (suc t) = directory_of h (suc t) + entry_bytes l * parks_of l (count_of h (suc t))
 
 -- the entry of a park of table t
-unfoldable pub entry_in : Form → List ℕ → ℕ → ℕ → ParkEntry
+unfoldable pub entry_in : Layout → List ℕ → ℕ → ℕ → ParkEntry
 entry_in l b t park = entry_of l (part b (directory_of (header_in b) t + entry_bytes l * park) (entry_bytes l))
 
 -- the bytes of the park of an entry

@@ -4,7 +4,7 @@ use Rattle.std.specs.Prelude.{◌≡◌, ◌↔◌, ℕ, ◌-◌, ◌*◌, ◌/�
 use Rattle.pos_bits.specs.Bits.{AreBytes}
 use Rattle.pos_lists.specs.Pairs.{greater}
 use Rattle.pos_layout.specs.declared.header.TheConstants.{LEAST_SIZE, GREATEST_SIZE}
-use Rattle.pos_layout.specs.Forms.{Form, IsForm, own}
+use Rattle.pos_layout.specs.Layouts.{Layout, IsLayout, own}
 use Rattle.pos_layout.specs.Lists.{IsPlot}
 use Rattle.pos_lists.specs.PlotLists.{PlotLists}
 use Rattle.pos_lists.specs.Trees.{IsInRange}
@@ -17,9 +17,9 @@ use Rattle.pos_layout.specs.Images.{IsTiny, IsShut, IsTinyOrShut, IsButGate, IsS
 
 -- ---- the laws speak of something
 
--- the first layout is a form
-abbrev pub OwnIsAForm : Type 0
-OwnIsAForm = IsForm own
+-- the own layout meets what is asked of one
+abbrev pub OwnIsALayout : Type 0
+OwnIsALayout = IsLayout own
 
 -- an id with no number in any table
 abbrev pub bare : List ℕ → ℕ → PlotLists
@@ -33,60 +33,60 @@ BareIsAPlot = (id : List ℕ) (k : ℕ) → length id ≡ 32 → AreBytes id →
 
 -- the file of a plot stores it: each park is within its limit, each offset and length fits its field
 abbrev pub AFileStoresItsPlot : Type 0
-AFileStoresItsPlot = (l : Form) (p : PlotLists) → IsForm l → IsPlot p → Stores l (file_of l p) p
+AFileStoresItsPlot = (l : Layout) (p : PlotLists) → IsLayout l → IsPlot p → Stores l (file_of l p) p
 
 -- so it is well where the numbers point inside
 abbrev pub AFileIsWell : Type 0
-AFileIsWell = (l : Form) (p : PlotLists) → IsForm l → IsPlot p → IsInRange p → Well l (file_of l p) p
+AFileIsWell = (l : Layout) (p : PlotLists) → IsLayout l → IsPlot p → IsInRange p → Well l (file_of l p) p
 
 -- and what it has are bytes
 abbrev pub AFileIsBytes : Type 0
-AFileIsBytes = (l : Form) (p : PlotLists) → IsForm l → IsPlot p → AreBytes (file_of l p)
+AFileIsBytes = (l : Layout) (p : PlotLists) → IsLayout l → IsPlot p → AreBytes (file_of l p)
 
 -- what a file of bytes stores is a plot
 abbrev pub AStoredPlotIsAPlot : Type 0
-AStoredPlotIsAPlot = (l : Form) (b : List ℕ) (p : PlotLists) → IsForm l → AreBytes b → Stores l b p → IsPlot p
+AStoredPlotIsAPlot = (l : Layout) (b : List ℕ) (p : PlotLists) → IsLayout l → AreBytes b → Stores l b p → IsPlot p
 
 -- a file stores at most one plot
 abbrev pub OneStoredPlot : Type 0
-OneStoredPlot = (l : Form) (b : List ℕ) (p q : PlotLists) → IsForm l → Stores l b p → Stores l b q → p ≡ q
+OneStoredPlot = (l : Layout) (b : List ℕ) (p q : PlotLists) → IsLayout l → Stores l b p → Stores l b q → p ≡ q
 
 -- what stores a plot is the file of the plot
 abbrev pub OneFile : Type 0
-OneFile = (l : Form) (b : List ℕ) (p : PlotLists) → IsForm l → AreBytes b → Stores l b p → b ≡ file_of l p
+OneFile = (l : Layout) (b : List ℕ) (p : PlotLists) → IsLayout l → AreBytes b → Stores l b p → b ≡ file_of l p
 
 -- so at most one file stores it
 abbrev pub OneFileOfAPlot : Type 0
-OneFileOfAPlot = (l : Form) (b c : List ℕ) (p : PlotLists) → IsForm l → AreBytes b → AreBytes c → Stores l b p → Stores l c p → b ≡ c
+OneFileOfAPlot = (l : Layout) (b c : List ℕ) (p : PlotLists) → IsLayout l → AreBytes b → AreBytes c → Stores l b p → Stores l c p → b ≡ c
 
 -- ---- opening
 
 -- opening a file by its own length finds nothing exactly where it opens
 abbrev pub OpeningFindsNothing : Type 0
-OpeningFindsNothing = (l : Form) (b : List ℕ) → (opening l b (length b) ≡ None) ↔ Opens l b
+OpeningFindsNothing = (l : Layout) (b : List ℕ) → (opening l b (length b) ≡ None) ↔ Opens l b
 
 -- opening a file finds each damage exactly where its cause holds
 abbrev pub OpeningFindsTheCause : Type 0
-OpeningFindsTheCause = (l : Form) (b : List ℕ) (d : Damage) → (opening l b (length b) ≡ Some d) ↔ OpeningCause l b d
+OpeningFindsTheCause = (l : Layout) (b : List ℕ) (d : Damage) → (opening l b (length b) ≡ Some d) ↔ OpeningCause l b d
 
 -- ---- what a crash may leave
 
 -- what opens and is the file of a plot but for the gate is that file
 abbrev pub OpensIsTheFile : Type 0
-OpensIsTheFile = (l : Form) (b : List ℕ) (p : PlotLists) → IsButGate (file_of l p) (Some b) → Opens l b → b ≡ file_of l p
+OpensIsTheFile = (l : Layout) (b : List ℕ) (p : PlotLists) → IsButGate (file_of l p) (Some b) → Opens l b → b ≡ file_of l p
 
 -- with a closed gate nothing opens
 abbrev pub ShutDoesNotOpen : Type 0
-ShutDoesNotOpen = (l : Form) (b : List ℕ) → IsShut (Some b) → Opens l b → ⊥
+ShutDoesNotOpen = (l : Layout) (b : List ℕ) → IsShut (Some b) → Opens l b → ⊥
 
 -- nothing of at most one byte opens
 abbrev pub TinyDoesNotOpen : Type 0
-TinyDoesNotOpen = (l : Form) (b : List ℕ) → IsTiny (Some b) → Opens l b → ⊥
+TinyDoesNotOpen = (l : Layout) (b : List ℕ) → IsTiny (Some b) → Opens l b → ⊥
 
 -- So of all that the calls of a writer may leave of a plot's file, absent, of at most one byte, with a closed gate, or the
 -- finished file but for the gate, what opens is the finished file.
 abbrev pub OpenImageIsTheFile : Type 0
-OpenImageIsTheFile = (l : Form) (b : List ℕ) (p : PlotLists) → IsTinyOrShut (Some b) ⊎ IsShutOr (file_of l p) (Some b) → Opens l b → b ≡ file_of l p
+OpenImageIsTheFile = (l : Layout) (b : List ℕ) (p : PlotLists) → IsTinyOrShut (Some b) ⊎ IsShutOr (file_of l p) (Some b) → Opens l b → b ≡ file_of l p
 
 -- ---- pointers
 

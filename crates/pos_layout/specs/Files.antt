@@ -8,7 +8,7 @@ use Rattle.pos_layout.specs.declared.header.Column.{Column}
 use Rattle.pos_layout.specs.declared.header.Header.{Header}
 use Rattle.pos_layout.specs.declared.entry.ParkEntry.{ParkEntry}
 use Rattle.pos_layout.specs.declared.header.TheConstants.{HEADER_BYTES}
-use Rattle.pos_layout.specs.Forms.{Form}
+use Rattle.pos_layout.specs.Layouts.{Layout}
 use Rattle.pos_lists.specs.PlotLists.{PlotLists}
 use Rattle.pos_layout.specs.Fields.{header_bytes, entry_fields}
 use Rattle.pos_layout.specs.Rules.{head_of}
@@ -33,7 +33,7 @@ cut full (suc most) [] = []
 cut full (suc most) (n ∷ ns) = take full (n ∷ ns) ∷ cut full most (drop full (n ∷ ns))
 
 -- the numbers of each park of a table
-unfoldable pub parks_in : Form → List ℕ → List (List ℕ)
+unfoldable pub parks_in : Layout → List ℕ → List (List ℕ)
 parks_in l ns = cut l.full (length ns) ns
 
 -- the parks one after another
@@ -42,7 +42,7 @@ park_bytes k [] = []
 park_bytes k (ns ∷ parks) = park_of k ns ++ park_bytes k parks
 
 -- what the directory says of a park of table t at this offset
-unfoldable pub entry_for : Form → ℕ → ℕ → ℕ → List ℕ → ParkEntry
+unfoldable pub entry_for : Layout → ℕ → ℕ → ℕ → List ℕ → ParkEntry
 entry_for l k t at ns = record {
   offset = at;
   park_length = length (park_of k ns);
@@ -52,32 +52,32 @@ entry_for l k t at ns = record {
 }
 
 -- the directory of the parks that stand one after another from this offset on
-unfoldable pub directory : Form → ℕ → ℕ → ℕ → List (List ℕ) → List ℕ
+unfoldable pub directory : Layout → ℕ → ℕ → ℕ → List (List ℕ) → List ℕ
 directory l k t at [] = []
 directory l k t at (ns ∷ parks) = entry_fields (entry_for l k t at ns) ++ directory l k t (at + length (park_of k ns)) parks
 
 -- a table that begins at this offset: its parks and its directory
-unfoldable pub table_bytes : Form → ℕ → ℕ → ℕ → List ℕ → List ℕ
+unfoldable pub table_bytes : Layout → ℕ → ℕ → ℕ → List ℕ → List ℕ
 table_bytes l k t at ns = park_bytes k (parks_in l ns) ++ directory l k t at (parks_in l ns)
 
 -- tables from t on, from this offset on
-unfoldable pub tables_bytes : Form → ℕ → ℕ → ℕ → List (List ℕ) → List ℕ
+unfoldable pub tables_bytes : Layout → ℕ → ℕ → ℕ → List (List ℕ) → List ℕ
 tables_bytes l k t at [] = []
 tables_bytes l k t at (ns ∷ tables) =
     table_bytes l k t at ns ++ tables_bytes l k (suc t) (at + length (table_bytes l k t at ns)) tables
 
 -- what the header says of these tables
-unfoldable pub columns_for : Form → ℕ → ℕ → ℕ → List (List ℕ) → List Column
+unfoldable pub columns_for : Layout → ℕ → ℕ → ℕ → List (List ℕ) → List Column
 columns_for l k t at [] = []
 columns_for l k t at (ns ∷ tables) =
     record { count = length ns; directory = at + length (park_bytes k (parks_in l ns)) }
     ∷ columns_for l k (suc t) (at + length (table_bytes l k t at ns)) tables
 
 -- all that comes after the header
-unfoldable pub body_of : Form → PlotLists → List ℕ
+unfoldable pub body_of : Layout → PlotLists → List ℕ
 body_of l p = tables_bytes l p.k 1 HEADER_BYTES p.tables
 
-unfoldable pub header_of : Form → PlotLists → Header
+unfoldable pub header_of : Layout → PlotLists → Header
 header_of l p = record {
   id = record { 0 = p.id };
   size = p.k;
@@ -86,9 +86,9 @@ header_of l p = record {
 }
 
 -- the file with its gate closed or open: 0 or 1
-unfoldable pub file_with : Form → ℕ → PlotLists → List ℕ
+unfoldable pub file_with : Layout → ℕ → PlotLists → List ℕ
 file_with l gate p = header_bytes l gate (header_of l p) ++ body_of l p
 
 -- the file of a plot
-abbrev pub file_of : Form → PlotLists → List ℕ
+abbrev pub file_of : Layout → PlotLists → List ℕ
 file_of l p = file_with l 1 p

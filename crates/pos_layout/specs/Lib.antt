@@ -5,7 +5,7 @@ pub mod Drafts
 pub mod Fields
 pub mod FileLaws
 pub mod Files
-pub mod Forms
+pub mod Layouts
 pub mod Images
 pub mod Lists
 pub mod Reading

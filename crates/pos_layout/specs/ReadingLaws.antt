@@ -6,7 +6,7 @@ use Rattle.pos_lists.specs.PlotLists.{PlotLists, numbers, count, number_at, f7_i
 use Rattle.pos_lists.specs.Trees.{IsInRange}
 use Rattle.pos_lists.specs.Walk.{ReadsPlot, ReadsValues}
 use Rattle.pos_layout.specs.Bytes.{part}
-use Rattle.pos_layout.specs.Forms.{Form, own, parks_of}
+use Rattle.pos_layout.specs.Layouts.{Layout, own, parks_of}
 use Rattle.pos_layout.specs.Fields.{count_of, header_in}
 use Rattle.pos_layout.specs.Lists.{points_inside}
 use Rattle.pos_layout.specs.Reading.{num, head, under, read_park}
@@ -46,9 +46,9 @@ AWholeFileShowsItsLists = (b : List ℕ) (p : PlotLists) → Well own b p → Sh
 
 -- whatever the bytes are, a number that is read points inside by the counts of the header
 abbrev pub NumbersPointInside : Type 0
-NumbersPointInside = (l : Form) (b : List ℕ) (t i n : ℕ) → num l b t i ≡ Ok n →
+NumbersPointInside = (l : Layout) (b : List ℕ) (t i n : ℕ) → num l b t i ≡ Ok n →
     points_inside (header_in b).size t (count_of (header_in b) (t - 1)) n ≡ true
 
 -- so what is read of table 1 is of values of k bits
 abbrev pub AnyFileReadsValues : Type 0
-AnyFileReadsValues = (l : Form) (b : List ℕ) → ReadsValues (num l b) (header_in b).size
+AnyFileReadsValues = (l : Layout) (b : List ℕ) → ReadsValues (num l b) (header_in b).size

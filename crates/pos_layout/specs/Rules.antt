@@ -8,19 +8,19 @@ use Rattle.pos_layout.specs.declared.header.Header.{Header}
 use Rattle.pos_layout.specs.declared.entry.ParkEntry.{ParkEntry}
 use Rattle.pos_layout.specs.declared.header.TheConstants.{HEADER_BYTES, LEAST_SIZE, GREATEST_SIZE}
 use Rattle.pos_layout.specs.Bytes.{part}
-use Rattle.pos_layout.specs.Forms.{Form, longest_park, parks_of}
+use Rattle.pos_layout.specs.Layouts.{Layout, longest_park, parks_of}
 use Rattle.pos_lists.specs.PlotLists.{PlotLists, numbers, f7_in}
 use Rattle.pos_lists.specs.Trees.{IsInRange}
 use Rattle.pos_layout.specs.Fields.{gate_in, name_in, zeros_in, header_in, count_of, directory_of, end_of, entry_in, park_in}
 
 -- table t's directory lies after the table before and ends inside the file; a table without numbers has no park
-pub record IsPlaced (l : Form) (h : Header) (t : ℕ) : Type 0 where
+pub record IsPlaced (l : Layout) (h : Header) (t : ℕ) : Type 0 where
   pub after : end_of l h (t - 1) ≤ directory_of h t
   pub inside : end_of l h t ≤ h.file_length
   pub empty : count_of h t ≡ 0 → directory_of h t ≡ end_of l h (t - 1)
 
 -- a header that says of size, counts, offsets and length what can be
-pub record IsLaidOut (l : Form) (h : Header) : Type 0 where
+pub record IsLaidOut (l : Layout) (h : Header) : Type 0 where
   pub least : LEAST_SIZE ≤ h.size
   pub greatest : h.size ≤ GREATEST_SIZE
   pub counts : (t : ℕ) → 1 ≤ t → t ≤ 7 → count_of h t ≤ 2 ^ (h.size + 1)
@@ -28,7 +28,7 @@ pub record IsLaidOut (l : Form) (h : Header) : Type 0 where
   pub whole : end_of l h 7 ≡ h.file_length
 
 -- the bytes are a plot file as far as the header shows
-pub record Opens (l : Form) (b : List ℕ) : Type 0 where
+pub record Opens (l : Layout) (b : List ℕ) : Type 0 where
   pub long : HEADER_BYTES ≤ length b
   pub gate : gate_in b ≡ 1
   pub name : name_in b ≡ l.name
@@ -41,12 +41,12 @@ abbrev pub head_of : ℕ → ℕ → List ℕ → ℕ
 head_of k t ns = if t == 7 then f7_in k (slice_index ns 0) else 0
 
 -- where a park has to begin: at the end of the one before it, and the first at the end of the table before
-unfoldable pub park_start : Form → List ℕ → ℕ → ℕ → ℕ
+unfoldable pub park_start : Layout → List ℕ → ℕ → ℕ → ℕ
 park_start l b t zero = end_of l (header_in b) (t - 1)
 park_start l b t (suc park) = (entry_in l b t park).offset + (entry_in l b t park).park_length
 
 -- the entry of a park of table t says, and its bytes are, the park of these numbers
-pub record StoresPark (l : Form) (b : List ℕ) (t : ℕ) (ns : List ℕ) (e : ParkEntry) : Type 0 where
+pub record StoresPark (l : Layout) (b : List ℕ) (t : ℕ) (ns : List ℕ) (e : ParkEntry) : Type 0 where
   pub some : 1 ≤ e.park_length
   pub short : e.park_length ≤ longest_park l (header_in b).size
   pub count : e.count ≡ length ns
@@ -55,7 +55,7 @@ pub record StoresPark (l : Form) (b : List ℕ) (t : ℕ) (ns : List ℕ) (e : P
   pub park : Park (header_in b).size ns (park_in b e)
 
 -- table t's parks follow one another up to its directory, and hold these numbers in order
-pub record StoresTable (l : Form) (b : List ℕ) (t : ℕ) (ns : List ℕ) : Type 0 where
+pub record StoresTable (l : Layout) (b : List ℕ) (t : ℕ) (ns : List ℕ) : Type 0 where
   pub count : length ns ≡ count_of (header_in b) t
   pub rising : IsStrictlyIncreasing ns
   pub starts : (park : ℕ) → park < parks_of l (length ns) → (entry_in l b t park).offset ≡ park_start l b t park
@@ -63,7 +63,7 @@ pub record StoresTable (l : Form) (b : List ℕ) (t : ℕ) (ns : List ℕ) : Typ
   pub parks : (park : ℕ) → park < parks_of l (length ns) → StoresPark l b t (part ns (l.full * park) l.full) (entry_in l b t park)
 
 -- the bytes are the whole file of these lists
-pub record Stores (l : Form) (b : List ℕ) (p : PlotLists) : Type 0 where
+pub record Stores (l : Layout) (b : List ℕ) (p : PlotLists) : Type 0 where
   pub opens : Opens l b
   pub id : p.id ≡ (header_in b).id.0
   pub size : p.k ≡ (header_in b).size
@@ -71,6 +71,6 @@ pub record Stores (l : Form) (b : List ℕ) (p : PlotLists) : Type 0 where
   pub tables : (t : ℕ) → 1 ≤ t → t ≤ 7 → StoresTable l b t (numbers p t)
 
 -- and no number points outside
-pub record Well (l : Form) (b : List ℕ) (p : PlotLists) : Type 0 where
+pub record Well (l : Layout) (b : List ℕ) (p : PlotLists) : Type 0 where
   pub stores : Stores l b p
   pub in_range : IsInRange p

@@ -7,7 +7,7 @@ use Rattle.pos_edge.specs.Frame.{ChangesFile, KeepsIds, SameFaultsBut, Nothing}
 use Rattle.pos_edge.specs.Images.{ImagesBy}
 use Rattle.pos_edge.specs.declared.scratch.WorkFault.{WorkFault}
 use Rattle.pos_edge.specs.declared.scratch.WorkFault.TheVariants.{DiskFailed}
-use Rattle.pos_layout.specs.Forms.{own}
+use Rattle.pos_layout.specs.Layouts.{own}
 use Rattle.pos_layout.specs.Images.{EachImageOf, IsShut}
 use Rattle.pos_layout.specs.Drafts.{Draft, WriterState, Stands, IsWriteFault, table_ended}
 

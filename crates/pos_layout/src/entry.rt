@@ -3,7 +3,7 @@ ghost use Rattle.std.specs.Prelude.{◌≡◌, ◌≤◌, length};
 ghost use Rattle.pos_rice.specs.Park.{AreNumbers, Park};
 ghost use Rattle.pos_layout.specs.Files.{entry_for};
 ghost use Rattle.pos_layout.specs.Rules.{head_of};
-ghost use Rattle.pos_layout.specs.Forms.{own};
+ghost use Rattle.pos_layout.specs.Layouts.{own};
 ghost use Rattle.pos_layout.specs.Fields.{entry_fields, entry_of};
 
 use crate::bytes::{eight_at, four_at, put};

@@ -1,6 +1,6 @@
 //! The header of a plot file, between its bytes and its fields.
 ghost use Rattle.std.specs.Prelude.{◌≡◌, ◌≤◌, ◌+◌, ◌*◌, ◌<◌, ◌==◌, ◌&&◌, ◌++◌, nat_le, length, take, OnOk, IfOk, IfErr, Some, None};
-ghost use Rattle.pos_layout.specs.Forms.{own};
+ghost use Rattle.pos_layout.specs.Layouts.{own};
 ghost use Rattle.std.specs.List.{list_all};
 ghost use Rattle.std.specs.Str.{bytes_eq};
 ghost use Rattle.pos_layout.specs.Fields.{column_bytes, columns_bytes, column_in, header_bytes, header_in, name_in};

@@ -1,11 +1,11 @@
 //! What holds of plot files, whatever the code: each law is what a function with an empty body ensures.
 
-ghost use Rattle.pos_layout.specs.FileLaws.{OwnIsAForm, BareIsAPlot, AFileStoresItsPlot, AFileIsWell, AFileIsBytes, AStoredPlotIsAPlot, OneStoredPlot, OneFile, OneFileOfAPlot, OpeningFindsNothing, OpeningFindsTheCause, OpenImageIsTheFile, OpensIsTheFile, ShutDoesNotOpen, TinyDoesNotOpen, PointsInsideByPairs};
+ghost use Rattle.pos_layout.specs.FileLaws.{OwnIsALayout, BareIsAPlot, AFileStoresItsPlot, AFileIsWell, AFileIsBytes, AStoredPlotIsAPlot, OneStoredPlot, OneFile, OneFileOfAPlot, OpeningFindsNothing, OpeningFindsTheCause, OpenImageIsTheFile, OpensIsTheFile, ShutDoesNotOpen, TinyDoesNotOpen, PointsInsideByPairs};
 ghost use Rattle.pos_layout.specs.ReadingLaws.{ParksAreRead, HeadsAreRead, CountsAreRead, NumbersAreRead, AWholeFileShowsItsLists, NumbersPointInside, AnyFileReadsValues};
 
-/// The first layout is a form, and at each size each id has a plot with seven empty tables, so the laws below speak of something.
-pub fn forms_and_plots_are_there()
-    ensures form { OwnIsAForm }
+/// The layout of this project meets what is asked of one, and at each size each id has a plot with seven empty tables, so the laws below speak of something.
+pub fn layouts_and_plots_are_there()
+    ensures layout { OwnIsALayout }
     ensures plot { BareIsAPlot }
 {}
 

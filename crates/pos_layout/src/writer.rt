@@ -1,7 +1,7 @@
 //! The writer of a plot file.
 ghost use Rattle.std.specs.Prelude.{◌≡◌, ◌<◌, ◌≤◌, ◌∷◌, [], ◌++◌, ℕ, List, length, IfOk, OnOk};
 ghost use Rattle.pos_bits.specs.Bits.{AreBytes};
-ghost use Rattle.pos_layout.specs.Forms.{own};
+ghost use Rattle.pos_layout.specs.Layouts.{own};
 ghost use Rattle.pos_layout.specs.Files.{file_of, parks_in};
 ghost use Rattle.pos_layout.specs.Drafts.{Draft, Keeps, Stands, begun, added, table_ended, plot_of, count_so_far, SameTable, IsFinished};
 ghost use Rattle.pos_layout.specs.Images.{IsFresh, IsShut, IsShutOr, IsTinyOrShut};

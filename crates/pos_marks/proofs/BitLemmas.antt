@@ -10,7 +10,7 @@ use Rattle.std.specs.Prelude.{slice_range}
 use Rattle.std.specs.Int.{w8}
 use Rattle.std.specs.Int.RustNames.{bit_and, bit_or, count_ones}
 use Rattle.pos_lists.specs.Rank.{rank}
-use Rattle.pos_marks.specs.Bits.{is_set, has_bit, AreCounts}
+use Rattle.pos_marks.specs.Bits.{is_set, has_bit, AreRankCounts}
 
 -- ---- ranks
 
@@ -215,5 +215,5 @@ counted_more bytes n ones more counts fits h e =
       ];
     }
 
-pub counted_all : (bytes counts : List ℕ) (n ones : ℕ) → n ≡ length bytes / 512 → CountedTo bytes n ones counts → AreCounts bytes counts
+pub counted_all : (bytes counts : List ℕ) (n ones : ℕ) → n ≡ length bytes / 512 → CountedTo bytes n ones counts → AreRankCounts bytes counts
 counted_all bytes counts n ones e h = let count = h.count in record { count = omega arith; each = h.each }

@@ -12,7 +12,7 @@ use Rattle.pos_edge.proofs.Frames.{frame_none}
 use Rattle.pos_lists.specs.Rank.{rank}
 use Rattle.pos_lists.proofs.RankLemmas.{ranks_are_below}
 use Rattle.pos_marks.specs.declared.set.Marks.{Marks}
-use Rattle.pos_marks.specs.Bits.{has_bit, is_set, AreCounts}
+use Rattle.pos_marks.specs.Bits.{has_bit, is_set, AreRankCounts}
 use Rattle.pos_marks.specs.Pages.{BeginsWith}
 use Rattle.pos_lists.specs.Places.{no_place, with_place}
 use Rattle.pos_marks.specs.Marks.{Marked, page_count}
@@ -91,7 +91,7 @@ marked_set m n p i v h unsealed inside places file sealed bits len loaded =
 -- the marks written to the file and counted
 pub marked_sealed : (m n : Marks) (p : ℕ → Bool) (a b : View) → Marked m p a → m.is_sealed ≡ false → ChangesFile m.file.0 a b
     → n.places ≡ m.places → n.file ≡ m.file → n.is_sealed ≡ true → n.loaded ≡ m.loaded → length n.page.items ≡ 65536
-    → AreCounts m.bits.items n.counts.items → length m.bits.items ≤ b.size_of m.file.0 → BeginsWith m.file.0 m.bits.items b → Marked n p b
+    → AreRankCounts m.bits.items n.counts.items → length m.bits.items ≤ b.size_of m.file.0 → BeginsWith m.file.0 m.bits.items b → Marked n p b
 marked_sealed m n p a b h unsealed kept places file sealed none room counts size front =
     let memory = h.memory unsealed in
     let len = memory.room in

@@ -12,6 +12,6 @@ unfoldable pub has_bit : List ℕ → ℕ → Bool
 has_bit bytes i = is_set (slice_index bytes (i / 8)) (i % 8)
 
 -- the counts of the bits that are set before each multiple of 512 bytes
-pub record AreCounts (bytes counts : List ℕ) : Type 0 where
+pub record AreRankCounts (bytes counts : List ℕ) : Type 0 where
   pub count : length counts ≡ length bytes / 512 + 1
   pub each : (j : ℕ) → j < length counts → slice_index counts j ≡ rank (has_bit bytes) (4096 * j)

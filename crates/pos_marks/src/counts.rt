@@ -1,7 +1,7 @@
 //! Counts of marks, so that a rank looks at few bytes.
 ghost use Rattle.std.specs.Prelude.{◌≡◌, ◌+◌, ◌*◌, ◌/◌, ◌%◌, ◌^◌, ◌<◌, IfErr, IfOk, length};
 ghost use Rattle.pos_lists.specs.Rank.{rank};
-ghost use Rattle.pos_marks.specs.Bits.{AreCounts, has_bit};
+ghost use Rattle.pos_marks.specs.Bits.{AreRankCounts, has_bit};
 
 use crate::ones::{ones_before, ones_in};
 use crate::pages::{PAGE_BYTES, PAGE_PLACES};
@@ -17,7 +17,7 @@ pub(crate) const BLOCK_PLACES: u64 = 4096;
 /// How many bits are set before each multiple of `BLOCK_BYTES` bytes.
 pub(crate) fn counts_of(alloc: Global, bytes: &[u8]) -> Result<Vec<u64>, WorkFault>
     requires { length bytes.now < 2 ^ 60 }
-    ensures ok { IfOk result (λ counts. AreCounts bytes.now counts.items) }
+    ensures ok { IfOk result (λ counts. AreRankCounts bytes.now counts.items) }
     ensures fault { IfErr result (λ fault. fault ≡ WorkFault.Memory) }
 {
     let mut ones = 0u64;

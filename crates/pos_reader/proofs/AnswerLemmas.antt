@@ -4,7 +4,7 @@ use Rattle.std.proofs.lemmas.Bool.{false≢true}
 use Rattle.pos_layout.specs.declared.header.Header.{Header}
 use Rattle.pos_layout.specs.declared.entry.ParkEntry.{ParkEntry}
 use Rattle.pos_layout.specs.declared.damage.Damage.TheVariants.{Pointer}
-use Rattle.pos_layout.specs.Forms.{own, park_count}
+use Rattle.pos_layout.specs.Layouts.{own, park_count}
 use Rattle.pos_layout.specs.Fields.{count_of, header_in}
 use Rattle.pos_layout.specs.Lists.{points_inside}
 use Rattle.pos_layout.specs.Reading.{tested, read_entry, read_park, num, head, under}

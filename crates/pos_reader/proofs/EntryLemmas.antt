@@ -4,7 +4,7 @@ use Rattle.std.proofs.lemmas.Bool.{false≢true}
 use Rattle.std.proofs.lemmas.Bool.Decides.{nat_tests}
 use Rattle.pos_layout.specs.declared.header.Header.{Header}
 use Rattle.pos_layout.specs.declared.entry.ParkEntry.{ParkEntry}
-use Rattle.pos_layout.specs.Forms.{own, longest_park, park_count, parks_of}
+use Rattle.pos_layout.specs.Layouts.{own, longest_park, park_count, parks_of}
 use Rattle.pos_layout.specs.declared.damage.Damage.{Damage}
 use Rattle.pos_layout.specs.Bytes.{part}
 use Rattle.pos_layout.specs.Fields.{count_of, directory_of, end_of, entry_in, header_in}

@@ -12,7 +12,7 @@ use Rattle.pos_layout.specs.declared.damage.HeaderField.{HeaderField}
 use Rattle.pos_layout.specs.declared.damage.HeaderField.TheVariants.{Name, Size, Zeros, Counts}
 use Rattle.pos_layout.specs.declared.damage.Damage.{Damage}
 use Rattle.pos_layout.specs.declared.damage.Damage.TheVariants.{NotOpen, Header as WrongHeader, Length, Directory}
-use Rattle.pos_layout.specs.Forms.{own, parks_of}
+use Rattle.pos_layout.specs.Layouts.{own, parks_of}
 use Rattle.pos_layout.specs.Fields.{column_of, count_of, directory_of, end_of, gate_in, header_in, name_in, zeros_in}
 use Rattle.pos_layout.specs.Damages.{unless, first_found, header_fault, is_placed, place_fault, directory_fault, opening}
 use Rattle.pos_reader.specs.Steps.{HasCounts}

@@ -7,7 +7,7 @@ use Rattle.std.proofs.lemmas.List.{drop-take, drop_all, get_or-take, length-repl
 use Rattle.pos_layout.specs.declared.header.Header.{Header}
 use Rattle.pos_layout.specs.declared.damage.Damage.TheVariants.{NotOpen, Header as WrongHeader, Length}
 use Rattle.pos_layout.specs.Bytes.{part, eight_at}
-use Rattle.pos_layout.specs.Forms.{own}
+use Rattle.pos_layout.specs.Layouts.{own}
 use Rattle.pos_layout.specs.Fields.{column_in, gate_in, header_in}
 use Rattle.pos_layout.specs.Damages.{first_found, header_fault, is_placed, directory_fault, opening}
 use Rattle.pos_layout.specs.Rules.{IsPlaced, IsLaidOut}

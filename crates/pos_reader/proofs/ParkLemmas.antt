@@ -11,7 +11,7 @@ use Rattle.pos_rice.specs.Reading.{numbers_in}
 use Rattle.pos_layout.specs.declared.header.Header.{Header}
 use Rattle.pos_layout.specs.declared.entry.ParkEntry.{ParkEntry}
 use Rattle.pos_layout.specs.declared.damage.Damage.TheVariants.{Directory, Digest, Form as WrongForm}
-use Rattle.pos_layout.specs.Forms.{own}
+use Rattle.pos_layout.specs.Layouts.{own}
 use Rattle.pos_layout.specs.Lists.{points_inside}
 use Rattle.pos_lists.specs.PlotLists.{f7_in}
 use Rattle.pos_reader.proofs.HeaderLemmas.{eq_true, eq_false}

@@ -1,20 +1,18 @@
 -- What it says of a park that it was read.
-use Rattle.std.proofs.Common.{◌≡◌, ℕ, zero, suc, ◌+◌, ◌*◌, ◌/◌, ◌%◌, ◌^◌, ◌<◌, ◌≤◌, ◌==◌, Bool, true, false, nat_lt, List, [], ◌∷◌, length, take, slice_index, count_by, Option, Some, None, Result, Ok, Err, refl, sym, ap, ◌∙◌, subst, arith, lt-ltb, pow_mono, cond}
+use Rattle.std.proofs.Common.{◌≡◌, ℕ, ◌+◌, ◌*◌, ◌/◌, ◌^◌, ◌<◌, ◌≤◌, Bool, true, false, nat_lt, List, [], ◌∷◌, length, take, slice_index, count_by, Option, Some, None, Result, Ok, Err, refl, sym, ap, ◌∙◌, subst, arith, lt-ltb, pow_mono, cond}
 use Rattle.std.proofs.Math.Nat.{div-lt_iff_lt-mul}
 use Rattle.std.proofs.lemmas.List.Sums.{sum_by-cons}
 use Rattle.std.specs.Option.{ok_or}
 use Rattle.std.specs.Str.{bytes_eq}
-use Rattle.std.proofs.lemmas.Bool.{false≢true}
 use Rattle.sha2.specs.Sha256.{sha256}
 use Rattle.pos_rice.specs.Reading.{numbers_in}
-use Rattle.pos_rice.specs.Park.{Park}
 use Rattle.pos_rice.proofs.ReadingLemmas.{numbers_in-park}
 use Rattle.pos_lists.specs.PlotLists.{f7_in}
 use Rattle.pos_layout.specs.declared.damage.Damage.{Damage}
 use Rattle.pos_layout.specs.declared.damage.Damage.TheVariants.{Directory, Digest, Form as WrongForm}
 use Rattle.pos_layout.specs.declared.header.Header.{Header}
 use Rattle.pos_layout.specs.declared.entry.ParkEntry.{ParkEntry}
-use Rattle.pos_layout.specs.Forms.{own}
+use Rattle.pos_layout.specs.Layouts.{own}
 use Rattle.pos_layout.specs.Fields.{header_in, entry_in, park_in}
 use Rattle.pos_layout.specs.Reading.{tested, then_read, is_listed, is_headed, numbers_by, read_entry, read_park, head, under}
 use Rattle.pos_reader.proofs.HeaderLemmas.{eq_means}

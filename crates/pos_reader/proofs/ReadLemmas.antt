@@ -4,7 +4,7 @@ use Rattle.pos_edge.specs.Faults.{Rose}
 use Rattle.pos_edge.specs.View.{View}
 use Rattle.pos_edge.specs.Frame.{ChangesOnly, Nothing, NameOf, SameFaults, SameFaultsBut}
 use Rattle.pos_edge.proofs.Frames.{frame_then}
-use Rattle.pos_layout.specs.Forms.{Form, own}
+use Rattle.pos_layout.specs.Layouts.{Layout, own}
 use Rattle.pos_reader.specs.declared.refusal.ReadRefusal.{ReadRefusal}
 use Rattle.pos_reader.specs.declared.refusal.ReadRefusal.TheVariants.{DiskFailed}
 use Rattle.pos_reader.specs.Plots.{PlotState, IsOpen, IsPlotFile, OnlyReads}
@@ -36,7 +36,7 @@ IsOpen-kept names ids p a b frame apart other is =
     }
 
 -- and its file keeps its bytes
-pub IsPlotFile-kept : (l : Form) (names : List ℕ → Type 0) (ids : ℕ → Type 0) (p : PlotState) (bytes : List ℕ) (a b : View) → ChangesOnly names ids a b
+pub IsPlotFile-kept : (l : Layout) (names : List ℕ → Type 0) (ids : ℕ → Type 0) (p : PlotState) (bytes : List ℕ) (a b : View) → ChangesOnly names ids a b
     → (ids p.file → ⊥) → ((n : List ℕ) → NameOf p.file a n → names n → ⊥) → IsOpen p a → IsPlotFile l p bytes a → IsPlotFile l p bytes b
 IsPlotFile-kept l names ids p bytes a b frame apart other is holds = record {
   name = holds.name;
@@ -49,7 +49,7 @@ IsPlotFile-kept l names ids p bytes a b frame apart other is holds = record {
 pub open_after : (n : ℕ) (p : PlotState) (a b : View) → OnlyReads n a b → IsOpen p a → IsOpen p b
 open_after n p a b reads is = IsOpen-kept Nothing Nothing p a b reads.kept (λ x. x) (λ name named x. x) is
 
-pub file_after : (l : Form) (n : ℕ) (p : PlotState) (bytes : List ℕ) (a b : View) → OnlyReads n a b → IsOpen p a → IsPlotFile l p bytes a → IsPlotFile l p bytes b
+pub file_after : (l : Layout) (n : ℕ) (p : PlotState) (bytes : List ℕ) (a b : View) → OnlyReads n a b → IsOpen p a → IsPlotFile l p bytes a → IsPlotFile l p bytes b
 file_after l n p bytes a b reads is holds = IsPlotFile-kept l Nothing Nothing p bytes a b reads.kept (λ x. x) (λ name named x. x) is holds
 
 -- ---- counts of faults, over a call and what comes before it

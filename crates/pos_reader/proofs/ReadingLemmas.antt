@@ -1,12 +1,11 @@
 -- Calls on an open plot, one after another.
-use Rattle.std.proofs.Common.{◌≡◌, ℕ, ◌+◌, ◌≤◌, List, Result, Ok, Err, ◌∙◌, ap, subst, arith}
+use Rattle.std.proofs.Common.{◌≡◌, ℕ, ◌+◌, ◌≤◌, Result, Ok, Err, ◌∙◌}
 use Rattle.pos_edge.specs.View.{View}
-use Rattle.pos_edge.specs.Frame.{SameFaults}
 use Rattle.pos_layout.specs.declared.damage.Damage.{Damage}
 use Rattle.pos_reader.specs.declared.refusal.ReadRefusal.{ReadRefusal}
 use Rattle.pos_reader.specs.declared.refusal.ReadRefusal.TheVariants.{DiskFailed, Damage as Found}
-use Rattle.pos_reader.specs.Plots.{PlotState, IsPlotFile}
-use Rattle.pos_reader.specs.Readings.{CountsFaults, LeavesPlot, IsReading}
+use Rattle.pos_reader.specs.Plots.{PlotState}
+use Rattle.pos_reader.specs.Readings.{LeavesPlot, IsReading}
 use Rattle.pos_reader.proofs.ReadLemmas.{reads_then, reads_fewer, faults_after, faults_refused, faults_none}
 
 -- two calls leave a plot as one call of both counts does

@@ -5,7 +5,7 @@ use Rattle.pos_edge.specs.View.{View}
 use Rattle.pos_edge.specs.Frame.{ChangesOnly, KeepsIds, Nothing, NameOf}
 use Rattle.pos_edge.specs.Calls.{IsThere}
 use Rattle.pos_layout.specs.declared.header.Header.{Header}
-use Rattle.pos_layout.specs.Forms.{Form}
+use Rattle.pos_layout.specs.Layouts.{Layout}
 use Rattle.pos_layout.specs.Fields.{header_in}
 use Rattle.pos_layout.specs.Rules.{Opens}
 
@@ -14,8 +14,8 @@ pub record PlotState : Type 0 where
   pub file : ℕ
   pub header : Header
 
-abbrev pub plot_of : ℕ → Header → PlotState
-plot_of file header = record { file = file; header = header }
+abbrev pub opened_plot : ℕ → Header → PlotState
+opened_plot file header = record { file = file; header = header }
 
 -- The plot's file is live on this disk, was not removed through another FileId, and has at least the bytes that the plot has.
 pub record IsOpen (p : PlotState) (view : View) : Type 0 where
@@ -24,7 +24,7 @@ pub record IsOpen (p : PlotState) (view : View) : Type 0 where
   pub whole : p.header.file_length ≤ view.size_of p.file
 
 -- The disk tells that the plot's file holds these bytes. They open, and their header is the one that the plot keeps.
-pub record IsPlotFile (l : Form) (p : PlotState) (b : List ℕ) (view : View) : Type 0 where
+pub record IsPlotFile (l : Layout) (p : PlotState) (b : List ℕ) (view : View) : Type 0 where
   pub name : List ℕ
   pub named : NameOf p.file view name
   pub contents : view.contents name ≡ Some b

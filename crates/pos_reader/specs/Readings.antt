@@ -3,7 +3,7 @@ use Rattle.std.specs.Prelude.{◌≡◌, ℕ, true, false, List, Result, Some, I
 use Rattle.pos_edge.specs.Faults.{Rose}
 use Rattle.pos_edge.specs.View.{View}
 use Rattle.pos_edge.specs.Frame.{Just, KeepsIds, NameOf, SameFaultsBut}
-use Rattle.pos_layout.specs.Forms.{own}
+use Rattle.pos_layout.specs.Layouts.{own}
 use Rattle.pos_layout.specs.Rules.{IsLaidOut}
 use Rattle.pos_reader.specs.declared.refusal.ReadRefusal.{ReadRefusal}
 use Rattle.pos_reader.specs.declared.refusal.ReadRefusal.TheVariants.{DiskFailed}

@@ -1,7 +1,7 @@
 //! From the bytes of a directory's entry to what it says of a park.
 ghost use Rattle.std.specs.Prelude.{◌≡◌, ◌-◌, length, false};
 ghost use Rattle.pos_layout.specs.declared.entry.TheConstants.{ENTRY_BYTES};
-ghost use Rattle.pos_layout.specs.Forms.{own};
+ghost use Rattle.pos_layout.specs.Layouts.{own};
 ghost use Rattle.pos_layout.specs.Reading.{is_listed};
 ghost use Rattle.pos_layout.specs.Rules.{IsLaidOut};
 ghost use Rattle.pos_reader.specs.Steps.{IsPark, listed};

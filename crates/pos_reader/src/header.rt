@@ -2,7 +2,7 @@
 ghost use Rattle.std.specs.Prelude.{◌≡◌, ◌↔◌, ◌-◌, ◌^◌, ◌+◌, ◌<◌, ◌≤◌, false, length, true, IfErr, IfNone, IfOk, IfSome, IsTrue, None, OnOk, OnSome, Some};
 ghost use Rattle.pos_layout.specs.Damages.{directory_fault, is_placed, opening};
 ghost use Rattle.pos_layout.specs.Fields.{count_of, end_of, header_in};
-ghost use Rattle.pos_layout.specs.Forms.{own};
+ghost use Rattle.pos_layout.specs.Layouts.{own};
 ghost use Rattle.pos_reader.specs.Steps.{HasCounts};
 
 use pos_layout::{Column, Damage, ENTRY_BYTES, HEADER_BYTES, Header, decode_header, parks_of};

@@ -1,7 +1,7 @@
 //! From the bytes of a park to its numbers.
 ghost use Rattle.std.specs.Prelude.{◌≡◌, ◌-◌, ◌+◌, ◌*◌, ◌^◌, ◌<◌, ◌≤◌, count_by, length, nat_lt, take, true, IfErr, OnOk, Ok, Err};
 ghost use Rattle.pos_layout.specs.Fields.{count_of};
-ghost use Rattle.pos_layout.specs.Forms.{own};
+ghost use Rattle.pos_layout.specs.Layouts.{own};
 ghost use Rattle.pos_layout.specs.Lists.{points_inside};
 ghost use Rattle.pos_lists.specs.Pairs.{greater};
 ghost use Rattle.pos_layout.specs.Reading.{is_listed, numbers_by};

@@ -4,13 +4,13 @@ ghost use Rattle.pos_edge.specs.Calls.{WasAbsent};
 ghost use Rattle.pos_edge.specs.Frame.{ChangesOnly, IsUntouched, Nothing};
 ghost use Rattle.pos_layout.specs.Damages.{opening};
 ghost use Rattle.pos_layout.specs.Fields.{count_of};
-ghost use Rattle.pos_layout.specs.Forms.{own, park_count, parks_of};
+ghost use Rattle.pos_layout.specs.Layouts.{own, park_count, parks_of};
 ghost use Rattle.pos_layout.specs.Lists.{points_inside};
 ghost use Rattle.pos_layout.specs.Reading.{head, num, under};
 ghost use Rattle.pos_layout.specs.Rules.{IsLaidOut};
 ghost use Rattle.pos_layout.specs.declared.damage.Damage.{Damage};
 ghost use Rattle.pos_reader.specs.Answers.{Answers};
-ghost use Rattle.pos_reader.specs.Plots.{IsOpen, IsPlotFile, plot_of};
+ghost use Rattle.pos_reader.specs.Plots.{IsOpen, IsPlotFile, opened_plot};
 ghost use Rattle.pos_reader.specs.Readings.{CountsFaults, IsPlotOpened, IsReading};
 
 use crate::park::{count_below, least_with, points_inside};
@@ -38,14 +38,14 @@ pub struct Plot {
 
 impl Model for Plot {
     ghost use Rattle.std.specs.Prelude.{◌≤◌, vec_len};
-    ghost use Rattle.pos_layout.specs.Forms.{longest_park, own};
+    ghost use Rattle.pos_layout.specs.Layouts.{longest_park, own};
     ghost use Rattle.pos_layout.specs.Rules.{IsLaidOut};
-    ghost use Rattle.pos_reader.specs.Plots.{PlotState, plot_of};
+    ghost use Rattle.pos_reader.specs.Plots.{PlotState, opened_plot};
     ghost use Rattle.pos_rice.specs.declared.TheConstants.{MOST_NUMBERS};
 
     ghost Value = { PlotState };
 
-    ghost view = { λ p. plot_of p.file.0 p.header };
+    ghost view = { λ p. opened_plot p.file.0 p.header };
 
     ghost invariant = { λ p. IsLaidOut own p.header × (longest_park own p.header.size ≤ vec_len p.bytes) × (MOST_NUMBERS ≤ vec_len p.numbers) };
 }
@@ -188,7 +188,7 @@ impl Plot {
 /// The plot of a header, with its buffers.
 fn with_buffers(alloc: Global, file: FileId, header: Header) -> Result<Plot, OpenRefusal>
     requires { IsLaidOut own header }
-    ensures ok { IfOk result (λ p. p ≡ plot_of file.0 header) }
+    ensures ok { IfOk result (λ p. p ≡ opened_plot file.0 header) }
     ensures refusal { IfErr result (λ refusal. refusal ≡ OpenRefusal.Memory) }
 {
     let Ok(bytes) = vec![in alloc; 0; longest_park(header.size) as usize] else {

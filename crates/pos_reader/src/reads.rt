@@ -5,11 +5,11 @@ ghost use Rattle.pos_edge.specs.Frame.{NameOf};
 ghost use Rattle.pos_layout.specs.Bytes.{part};
 ghost use Rattle.pos_layout.specs.Damages.{opening};
 ghost use Rattle.pos_layout.specs.Fields.{count_of, header_in};
-ghost use Rattle.pos_layout.specs.Forms.{longest_park, own, park_count};
+ghost use Rattle.pos_layout.specs.Layouts.{longest_park, own, park_count};
 ghost use Rattle.pos_layout.specs.Reading.{is_listed, read_entry, read_park};
 ghost use Rattle.pos_layout.specs.Rules.{IsLaidOut, Opens};
 ghost use Rattle.pos_reader.specs.Answers.{Answers};
-ghost use Rattle.pos_reader.specs.Plots.{IsOpen, IsPlotFile, OnlyReads, plot_of};
+ghost use Rattle.pos_reader.specs.Plots.{IsOpen, IsPlotFile, OnlyReads, opened_plot};
 ghost use Rattle.pos_reader.specs.Readings.{CountsFaults};
 ghost use Rattle.pos_reader.specs.Steps.{IsPark};
 ghost use Rattle.pos_rice.specs.Park.{AreNumbers};
@@ -99,11 +99,11 @@ pub(crate) fn read_entry<D: Disk>(
     park: u64,
 ) -> Result<ParkEntry, ReadRefusal>
     requires laid_out { IsLaidOut own header.now }
-    requires is_open { IsOpen (plot_of file.0 header.now) (D.view disk.old) }
+    requires is_open { IsOpen (opened_plot file.0 header.now) (D.view disk.old) }
     requires park { IsPark own header.now t park }
     ensures reads { OnlyReads 1 (D.view disk.old) (D.view disk.new) }
     ensures listed { IfOk result (λ e. is_listed own header.now t park e ≡ true) }
-    ensures entry { (b : List ℕ) → IsPlotFile own (plot_of file.0 header.now) b (D.view disk.old)
+    ensures entry { (b : List ℕ) → IsPlotFile own (opened_plot file.0 header.now) b (D.view disk.old)
         → Answers result (read_entry own b t park) }
     ensures faults { CountsFaults ReadRefusal.DiskFailed result (D.view disk.old) (D.view disk.new) }
 {
@@ -137,17 +137,17 @@ pub(crate) fn read_park<D: Disk>(
     numbers: &mut [u128],
 ) -> Result<u32, ReadRefusal>
     requires laid_out { IsLaidOut own header.now }
-    requires is_open { IsOpen (plot_of file.0 header.now) (D.view disk.old) }
+    requires is_open { IsOpen (opened_plot file.0 header.now) (D.view disk.old) }
     requires park { IsPark own header.now t park }
     requires bytes { longest_park own header.now.size ≤ length bytes.old }
     requires numbers { MOST_NUMBERS ≤ length numbers.old }
     ensures reads { OnlyReads 2 (D.view disk.old) (D.view disk.new) }
     ensures count { IfOk result (λ n. n ≡ park_count own (count_of header.now t) park) }
     ensures numbers { IfOk result (λ n. AreNumbers header.now.size (take n numbers.new)) }
-    ensures ok { IfOk result (λ n. (b : List ℕ) → IsPlotFile own (plot_of file.0 header.now) b (D.view disk.old)
+    ensures ok { IfOk result (λ n. (b : List ℕ) → IsPlotFile own (opened_plot file.0 header.now) b (D.view disk.old)
         → read_park own b t park ≡ Ok (take n numbers.new)) }
     ensures damage { (d : Damage) → IsErrOf result (ReadRefusal.Damage d)
-        → (b : List ℕ) → IsPlotFile own (plot_of file.0 header.now) b (D.view disk.old) → read_park own b t park ≡ Err d }
+        → (b : List ℕ) → IsPlotFile own (opened_plot file.0 header.now) b (D.view disk.old) → read_park own b t park ≡ Err d }
     ensures faults { CountsFaults ReadRefusal.DiskFailed result (D.view disk.old) (D.view disk.new) }
 {
     let entry = read_entry(disk, file, header, t, park)?;

@@ -6,7 +6,7 @@ ghost use Rattle.pos_edge.specs.Images.{ImagesBy, Tears, Stays, MayVanish};
 ghost use Rattle.pos_edge.specs.Calls.{IsThere, WasThere, WasAbsent, IsCreated, IsHalfCreated, IsOpened, AreBytesAt, IsWritten, IsHalfWritten, SameContents, IsSynced, Ends, IsGone, IsAsItWasOrGone};
 ghost use Rattle.pos_edge.specs.Quiet.{quiet_view, quiet_is_disk, live_in, known_size, QuietCreates, QuietOpens, QuietReads, QuietWrites, QuietSyncs, QuietRemoves};
 ghost use Rattle.pos_edge.specs.BlankDisks.{HasName, HasLength, with_name, fresh_blank, quiet_of, blank_view};
-ghost use Rattle.pos_edge.specs.BlankFiles.{names_of, IsThereAt, raised, removed};
+ghost use Rattle.pos_edge.specs.BlankFiles.{blank_names, IsThereAt, raised, removed};
 
 use crate::{CreateFault, Disk, DiskFailed, FileId, MAX_READ, OpenFault, WriteFault};
 use std::alloc::Global;
@@ -44,9 +44,9 @@ impl Model for BlankDisk {
 
     ghost Value = { BlankState };
 
-    ghost use Rattle.pos_edge.specs.BlankFiles.{names_of};
+    ghost use Rattle.pos_edge.specs.BlankFiles.{blank_names};
 
-    ghost view = { λ s. record { names = names_of s.files.items; handles = s.handles.items; reads = s.reads } };
+    ghost view = { λ s. record { names = blank_names s.files.items; handles = s.handles.items; reads = s.reads } };
 
     ghost invariant = { λ s. s.reads < 2 ^ 64 };
 }
@@ -267,8 +267,8 @@ impl Disk for BlankDisk {
 
 // The place of a file that is there.
 fn find(files: &[BlankFile], name: &str) -> Option<usize>
-    ensures found { IfSome result (λ i. (i < length files.now) × IsThereAt (names_of files.now) i name.now) }
-    ensures none { IfNone result ((i : ℕ) → i < length files.now → IsThereAt (names_of files.now) i name.now → ⊥) }
+    ensures found { IfSome result (λ i. (i < length files.now) × IsThereAt (blank_names files.now) i name.now) }
+    ensures none { IfNone result ((i : ℕ) → i < length files.now → IsThereAt (blank_names files.now) i name.now → ⊥) }
 {
     for (i, file) in files.iter().enumerate() {
         if file.there && file.name.as_str() == name {
@@ -281,7 +281,7 @@ fn find(files: &[BlankFile], name: &str) -> Option<usize>
 // One more empty file, for which there is room.
 fn add(files: &mut Vec<BlankFile>, name: String)
     requires { vec_len files.old < vec_capacity files.old }
-    ensures { names_of files.new.items ≡ names_of files.old.items ++ record { name = string_bytes name; there = true; length = 0 } ∷ [] }
+    ensures { blank_names files.new.items ≡ blank_names files.old.items ++ record { name = string_bytes name; there = true; length = 0 } ∷ [] }
 {
     let file = BlankFile {
         name,
@@ -313,7 +313,7 @@ fn give(handles: &mut Vec<BlankHandle>, slot: usize, size: u64) -> u64
 
 // The file has at least so many bytes.
 fn raise(files: &mut Vec<BlankFile>, slot: usize, end: u64)
-    ensures { names_of files.new.items ≡ raised slot end (names_of files.old.items) }
+    ensures { blank_names files.new.items ≡ raised slot end (blank_names files.old.items) }
 {
     if slot < files.len() {
         let file = &mut files[slot];
@@ -323,7 +323,7 @@ fn raise(files: &mut Vec<BlankFile>, slot: usize, end: u64)
 
 // The file is gone.
 fn forget(files: &mut Vec<BlankFile>, slot: usize)
-    ensures { names_of files.new.items ≡ removed slot (names_of files.old.items) }
+    ensures { blank_names files.new.items ≡ removed slot (blank_names files.old.items) }
 {
     if slot < files.len() {
         files[slot].there = false;

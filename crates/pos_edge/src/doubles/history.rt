@@ -3,7 +3,7 @@ ghost use Rattle.std.specs.Prelude.{◌≡◌, ◌≢◌, ◌+◌, ◌<◌, ◌�
 ghost use Rattle.pos_edge.specs.Images.{written};
 ghost use Rattle.pos_edge.specs.Log.{Writing as Act_Writing, Removing as Act_Removing, acted, never, state_of, contents_of};
 ghost use Rattle.pos_edge.specs.Histories.{cache_of, made_file, written_file, synced_file, gone_file, placed_file, KeepsOrAdds, IsReplayedFile, act_of, seen_at};
-ghost use Rattle.pos_edge.specs.MemoryDisks.{OpenFile, IsSoundFile, CanUse, MakeGives, FindGives, noted_in, replaced_in, placed_in, synced_in, grown, ended, live_of, size_in, image_after};
+ghost use Rattle.pos_edge.specs.MemoryDisks.{OpenFile, IsSoundHandle, CanUse, MakeGives, FindGives, noted_in, replaced_in, placed_in, synced_in, grown, ended, live_of, size_in, image_after};
 
 use std::alloc::{AllocError, Global};
 use std::marker::Model;
@@ -82,7 +82,7 @@ impl History {
 
     // Tells a caller what holds of every history.
     pub(crate) fn known(&self)
-        ensures { All (IsSoundFile self.now.log) self.now.open_files }
+        ensures { All (IsSoundHandle self.now.log) self.now.open_files }
     {
         let _names = &self.names;
     }

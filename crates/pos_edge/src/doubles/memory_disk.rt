@@ -5,7 +5,7 @@ ghost use Rattle.pos_edge.specs.Frame.{ChangesOnly, ChangesFile, KeepsIds, SameF
 ghost use Rattle.pos_edge.specs.Images.{ImagesBy, Tears, Stays, MayVanish};
 ghost use Rattle.pos_edge.specs.Calls.{IsThere, WasThere, WasAbsent, IsCreated, IsHalfCreated, IsOpened, AreBytesAt, IsWritten, IsHalfWritten, SameContents, IsSynced, Ends, IsGone, IsAsItWasOrGone};
 ghost use Rattle.pos_edge.specs.Log.{contents_of, state_of, IsImage};
-ghost use Rattle.pos_edge.specs.MemoryDisks.{OpenFile, DiskState, memory_view, fresh_disk, FailsAtCall, CanUse, CreateGives, OpenGives, ReadGives, WriteGives, SyncGives, RemoveGives, IsSound, image_after, placed, passed, failed, history_in};
+ghost use Rattle.pos_edge.specs.MemoryDisks.{OpenFile, DiskState, memory_view, fresh_disk, FailsAtCall, CanUse, CreateGives, OpenGives, ReadGives, WriteGives, SyncGives, RemoveGives, IsSoundDisk, image_after, placed, passed, failed, history_in};
 ghost use Rattle.pos_edge.specs.MemoryLaws.{memory_is_disk};
 
 use super::history::History;
@@ -105,7 +105,7 @@ impl MemoryDisk {
     fn fails(&mut self) -> bool
         ensures cause { IsTrue result ↔ FailsAtCall self.old }
         ensures counts { self.new ≡ (if result then failed self.old else passed self.old) }
-        ensures sound { IsSound self.old }
+        ensures sound { IsSoundDisk self.old }
     {
         self.history.known();
         let stopped = match self.limit {
@@ -122,7 +122,7 @@ impl MemoryDisk {
 
     fn make(&mut self, name: &str) -> Result<FileId, CreateFault>
         ensures gives { CreateGives self.old name.now result self.new }
-        ensures sound { IsSound self.old }
+        ensures sound { IsSoundDisk self.old }
     {
         if self.fails() {
             return Err(CreateFault::Failed);
@@ -136,7 +136,7 @@ impl MemoryDisk {
 
     fn find(&mut self, name: &str) -> Result<FileId, OpenFault>
         ensures gives { OpenGives self.old name.now result self.new }
-        ensures sound { IsSound self.old }
+        ensures sound { IsSoundDisk self.old }
     {
         if self.fails() {
             return Err(OpenFault::Failed);
@@ -152,7 +152,7 @@ impl MemoryDisk {
         requires { (used : OpenFile) × CanUse (history_in self.old) file.0 used × (at + length buf.old ≤ used.size) }
         ensures gives { (used : OpenFile) → CanUse (history_in self.old) file.0 used
             → ReadGives self.old used at buf.new result self.new }
-        ensures sound { IsSound self.old }
+        ensures sound { IsSoundDisk self.old }
     {
         let fails = self.fails();
         self.reads = self.reads.saturating_add(1);
@@ -168,7 +168,7 @@ impl MemoryDisk {
         requires fits { at + length bytes.now < 2 ^ 63 }
         ensures gives { (used : OpenFile) → CanUse (history_in self.old) file.0 used
             → WriteGives self.old file.0 used at bytes.now result self.new }
-        ensures sound { IsSound self.old }
+        ensures sound { IsSoundDisk self.old }
     {
         if self.fails() {
             return Err(WriteFault::Failed);
@@ -181,7 +181,7 @@ impl MemoryDisk {
     fn settle(&mut self, file: FileId) -> Result<(), DiskFailed>
         requires { (used : OpenFile) × CanUse (history_in self.old) file.0 used }
         ensures gives { (used : OpenFile) → CanUse (history_in self.old) file.0 used → SyncGives self.old used result self.new }
-        ensures sound { IsSound self.old }
+        ensures sound { IsSoundDisk self.old }
     {
         if self.fails() {
             return Err(DiskFailed);
@@ -194,7 +194,7 @@ impl MemoryDisk {
         requires { (used : OpenFile) × CanUse (history_in self.old) file.0 used }
         ensures gives { (used : OpenFile) → CanUse (history_in self.old) file.0 used
             → RemoveGives self.old file.0 used result self.new }
-        ensures sound { IsSound self.old }
+        ensures sound { IsSoundDisk self.old }
     {
         if self.fails() {
             self.history.end(file.0);

@@ -56,9 +56,7 @@ impl MemorySink {
 }
 
 impl Sink for MemorySink {
-    ghost faults = { λ s. s.faults };
-
-    ghost text = { λ s. Some s.text };
+    ghost heard = { λ s. record { text = Some s.text; faults = s.faults } };
 
     /// Writes the whole piece, or nothing of it where it fails.
     fn put(&mut self, bytes: &[u8]) -> Result<(), PutFailed>

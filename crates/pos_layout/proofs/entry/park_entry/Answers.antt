@@ -1,5 +1,5 @@
 use Rattle.std.proofs.Common.{ap, ◌∙◌, arith}
-use Rattle.pos_layout.specs.Forms.{own}
+use Rattle.pos_layout.specs.Layouts.{own}
 use Rattle.pos_layout.specs.Fields.{entry_fields}
 use Rattle.pos_layout.proofs.NumberLemmas.{park_fits, entry_for-is}
 use Rattle.pos_layout.proofs.entry.park_entry.Goals as goal

@@ -1,6 +1,6 @@
 use Rattle.std.proofs.Common.{refl, ◌+◌, ◌*◌, ◌^◌, ◌%◌, take, drop, rules}
 use Rattle.pos_layout.specs.Bytes.{part}
-use Rattle.pos_layout.specs.Forms.{own}
+use Rattle.pos_layout.specs.Layouts.{own}
 use Rattle.pos_layout.specs.Fields.{header_in}
 use Rattle.pos_layout.proofs.CodecLemmas.{fault_name, fault_size, fault_zeros, fault_counts, fault_none, header_from, most_is}
 use Rattle.pos_layout.proofs.header.decode_header.Goals as goal

@@ -1,6 +1,6 @@
 use Rattle.std.proofs.Common.{refl, ap, ◌∙◌, length, [], ◌∷◌, ◌++◌, replicate, set, rules}
 use Rattle.std.proofs.lemmas.List.{take_more_set}
-use Rattle.pos_layout.specs.Forms.{own}
+use Rattle.pos_layout.specs.Layouts.{own}
 use Rattle.pos_layout.specs.Fields.{columns_bytes}
 use Rattle.pos_layout.proofs.CodecLemmas.{put_next, whole, header_bytes-is}
 use Rattle.pos_layout.proofs.header.encode_header.Goals as goal

@@ -1,7 +1,7 @@
 -- The tests of an entry, one after another.
 use Rattle.std.proofs.Common.{◌≡◌, ◌==◌, ◌∙◌, ◌||◌, sym, arith}
 use Rattle.std.proofs.lemmas.Bool.{false≢true}
-use Rattle.pos_layout.specs.Forms.{own, park_count}
+use Rattle.pos_layout.specs.Layouts.{own, park_count}
 use Rattle.pos_layout.specs.Fields.{column_of, count_of}
 use Rattle.pos_layout.specs.Reading.{is_listed}
 use Rattle.pos_reader.proofs.EntryLemmas.{listed_by_head, listed_means, not_true, or_false, or_true}

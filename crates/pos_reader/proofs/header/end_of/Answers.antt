@@ -1,7 +1,7 @@
 -- Where a table ends by its column.
 use Rattle.std.proofs.Common.{◌≡◌, ◌+◌, ◌*◌, sym, ◌∙◌, ap, arith}
 use Rattle.std.proofs.lemmas.Grind.{common_steps}
-use Rattle.pos_layout.specs.Forms.{own}
+use Rattle.pos_layout.specs.Layouts.{own}
 use Rattle.pos_layout.specs.Fields.{column_of, directory_of, end_of}
 use Rattle.pos_reader.proofs.HeaderLemmas.{end_of-at, end_of-zero, count_small}
 use Rattle.pos_reader.proofs.header.end_of.Goals as goal

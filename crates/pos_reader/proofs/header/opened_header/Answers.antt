@@ -1,7 +1,7 @@
 -- The tests of opening, in their order.
 use Rattle.std.proofs.Common.{◌≡◌, ◌∙◌, Some, sym, ap, subst, true}
 use Rattle.pos_layout.specs.declared.damage.Damage.TheVariants.{Length}
-use Rattle.pos_layout.specs.Forms.{own}
+use Rattle.pos_layout.specs.Layouts.{own}
 use Rattle.pos_layout.specs.Damages.{directory_fault, opening}
 use Rattle.pos_reader.specs.Steps.{HasCounts}
 use Rattle.pos_reader.proofs.HeaderLemmas.{is_gated, gated, short_gate, shut_gate, opening-gate, opening-header, opening-length, opening-rest, header_right}

@@ -2,7 +2,7 @@
 use Rattle.std.proofs.Common.{◌≡◌, ◌+◌, ◌*◌, ◌≤◌, sym, ◌∙◌, ap, arith}
 use Rattle.std.proofs.lemmas.Bool.{false≢true}
 use Rattle.std.proofs.lemmas.Grind.{common_steps}
-use Rattle.pos_layout.specs.Forms.{own}
+use Rattle.pos_layout.specs.Layouts.{own}
 use Rattle.pos_layout.specs.Fields.{column_of, directory_of, end_of}
 use Rattle.pos_reader.proofs.HeaderLemmas.{end_of-at, count_small, parks_small, is_placed-true, is_placed-outside, is_placed-apart}
 use Rattle.pos_reader.proofs.header.placed_end.Goals as goal

@@ -1,6 +1,6 @@
 -- The first table that is not placed is the damage; with all placed, the end of the file is.
 use Rattle.std.proofs.Common.{◌≡◌, ◌==◌, ◌-◌, ◌∙◌, [], sym, ap, arith}
-use Rattle.pos_layout.specs.Forms.{own}
+use Rattle.pos_layout.specs.Layouts.{own}
 use Rattle.pos_layout.specs.Fields.{end_of}
 use Rattle.pos_layout.specs.declared.damage.Damage.TheVariants.{Directory}
 use Rattle.pos_reader.proofs.HeaderLemmas.{end_of-zero, eq_true, eq_false, first_passes, first_fails, misplaced_first, placed_all}

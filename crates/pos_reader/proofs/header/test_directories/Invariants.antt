@@ -1,6 +1,6 @@
 -- All tables so far are placed, and where the last of them ends.
 use Rattle.std.proofs.Common.{◌≡◌, ℕ, ◌-◌, ◌<◌, ◌≤◌, true}
-use Rattle.pos_layout.specs.Forms.{own}
+use Rattle.pos_layout.specs.Layouts.{own}
 use Rattle.pos_layout.specs.Fields.{end_of}
 use Rattle.pos_layout.specs.Damages.{is_placed}
 use Rattle.pos_reader.proofs.header.test_directories.Given as goal

@@ -6,7 +6,7 @@ use Rattle.pos_lists.specs.PlotLists.{f7_in}
 use Rattle.pos_reader.proofs.EntryLemmas.{listed_means, park_some, park_few}
 use Rattle.pos_reader.proofs.ParkLemmas.{is_digest, numbers-digest, numbers-form, numbers-head, numbers-all, not_means, not_not, headed_elsewhere, headed_right, headed_wrong}
 use Rattle.pos_layout.specs.Fields.{count_of}
-use Rattle.pos_layout.specs.Forms.{own, park_count}
+use Rattle.pos_layout.specs.Layouts.{own, park_count}
 use Rattle.pos_reader.proofs.park.park_numbers.Goals as goal
 use Rattle.pos_reader.proofs.park.park_numbers.Goals.{Else-ne, In-Ok, else-t-eq7-via-then-t-eq7+else-from-numbers, else-t-eq7-via-else-t-eq7}
 

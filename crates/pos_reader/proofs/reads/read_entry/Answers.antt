@@ -2,9 +2,9 @@
 use Rattle.std.proofs.Common.{◌≡◌, List, ℕ, sym, ◌∙◌, ap, arith}
 use Rattle.pos_layout.specs.Bytes.{part}
 use Rattle.pos_layout.specs.Fields.{column_of}
-use Rattle.pos_layout.specs.Forms.{own}
+use Rattle.pos_layout.specs.Layouts.{own}
 use Rattle.pos_layout.specs.Reading.{read_entry}
-use Rattle.pos_reader.specs.Plots.{IsPlotFile, plot_of}
+use Rattle.pos_reader.specs.Plots.{IsPlotFile, opened_plot}
 use Rattle.pos_reader.specs.Steps.{listed}
 use Rattle.pos_reader.proofs.EntryLemmas.{entry_inside, entry_read}
 use Rattle.pos_reader.proofs.reads.read_entry.Goals as goal
@@ -26,7 +26,7 @@ read-requires-clause-within g c =
     omega arith
 
 -- the bytes that were read are those of the entry
-are : (g : Over) (c : In_ok-read g) (b : List ℕ) → IsPlotFile own (plot_of c.args.file.0 c.args.header.now) b (g.D.Disk.view c.args.disk.now)
+are : (g : Over) (c : In_ok-read g) (b : List ℕ) → IsPlotFile own (opened_plot c.args.file.0 c.args.header.now) b (g.D.Disk.view c.args.disk.now)
     → read_entry own b c.args.t c.args.park ≡ listed own c.args.header.now c.args.t c.args.park c.read.new.buf
 unfolding column_of
 are g c b holds =

@@ -1,7 +1,7 @@
 -- What opening finds in the first bytes is what it finds in the file.
 use Rattle.std.proofs.Common.{◌≡◌, ◌∙◌, ◌++◌, ℕ, List, Some, None, sym, ap, subst, take, drop, length, replicate}
 use Rattle.pos_edge.specs.Frame.{NameOf}
-use Rattle.pos_layout.specs.Forms.{own}
+use Rattle.pos_layout.specs.Layouts.{own}
 use Rattle.pos_layout.specs.Damages.{opening}
 use Rattle.pos_layout.specs.Rules.{IsLaidOut}
 use Rattle.pos_reader.proofs.OpeningLemmas.{IsGood, good-from_opening, header_padded, opening_padded}

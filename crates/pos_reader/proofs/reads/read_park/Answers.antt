@@ -4,11 +4,11 @@ use Rattle.std.proofs.lemmas.List.{length-take-le}
 use Rattle.std.proofs.lemmas.Result.{err_from_is_err_and}
 use Rattle.pos_layout.specs.Bytes.{part}
 use Rattle.pos_reader.proofs.HeaderLemmas.{end_of-at}
-use Rattle.pos_layout.specs.Forms.{own}
+use Rattle.pos_layout.specs.Layouts.{own}
 use Rattle.pos_layout.specs.Reading.{read_park, numbers_by}
 use Rattle.pos_reader.specs.declared.refusal.ReadRefusal.TheVariants.{Damage as Found}
 use Rattle.pos_reader.proofs.AnswerLemmas.{damage_of}
-use Rattle.pos_reader.specs.Plots.{IsPlotFile, plot_of}
+use Rattle.pos_reader.specs.Plots.{IsPlotFile, opened_plot}
 use Rattle.pos_reader.specs.ReadingCauses.{IsListed}
 use Rattle.pos_reader.proofs.EntryLemmas.{listed_means, longest_small, park_found, park_refused}
 use Rattle.pos_reader.proofs.ReadLemmas.{reads_then, open_after, file_after}
@@ -26,7 +26,7 @@ taken : (g : Over) (c : In_ok-entry g) → length (take c.in_ok-entry.entry.park
 taken g c = length-take-le c.in_ok-entry.entry.park_length c.args.bytes.now (fits g c)
 
 -- the numbers are those of the park's bytes
-found : (g : Over) (c : In_ok-read g) (b : List ℕ) → IsPlotFile own (plot_of c.args.file.0 c.args.header.now) b (g.D.Disk.view c.args.disk.now)
+found : (g : Over) (c : In_ok-read g) (b : List ℕ) → IsPlotFile own (opened_plot c.args.file.0 c.args.header.now) b (g.D.Disk.view c.args.disk.now)
     → read_park own b c.args.t c.args.park ≡ numbers_by own c.args.header.now c.args.t c.args.park c.in_ok-entry.entry c.read.new.buf
 found g c b holds =
     let after = file_after own 1 _ b _ _ c.in_ok-entry.ensures.reads c.requires.is_open holds in

@@ -1,6 +1,6 @@
 use Rattle.std.proofs.Common.{◌<◌, ℕ}
-use Rattle.pos_edge.specs.BlankFiles.{names_of, IsThereAt}
+use Rattle.pos_edge.specs.BlankFiles.{blank_names, IsThereAt}
 use Rattle.pos_edge.proofs.doubles.blank_disk.find.Given as goal
 
 abbrev pub invariant-loop-i : goal.invariant-loop-i
-invariant-loop-i l = (k : ℕ) → k < l.i → IsThereAt (names_of l.files) k l.name → ⊥
+invariant-loop-i l = (k : ℕ) → k < l.i → IsThereAt (blank_names l.files) k l.name → ⊥

@@ -1,6 +1,6 @@
 use Rattle.std.proofs.Common.{◌≡◌, ◌<◌, ◌≢◌, ◌+◌, [], ◌∷◌, ◌++◌, length, refl, ap, ◌∙◌, rules, arith}
 use Rattle.std.proofs.lemmas.List.{length_push}
-use Rattle.pos_layout.specs.Forms.{own}
+use Rattle.pos_layout.specs.Layouts.{own}
 use Rattle.pos_layout.specs.Drafts.{Keeps, added}
 use Rattle.pos_layout.specs.contracts.writer.PlotWriter.{the_view}
 use Rattle.pos_layout.proofs.WriterLemmas.{kept_number, full_stands, next_fits}

@@ -2,14 +2,14 @@ use Rattle.std.proofs.lemmas.Result.{err_from_is_err_and}
 use Rattle.std.proofs.Common.{Ok, ◌≡◌, ◌≤◌, min, length, drop, take, refl, sym, ap, ◌∙◌, subst, arith}
 use Rattle.std.proofs.lemmas.List.{take_all, length-take, length-drop}
 use Rattle.pos_layout.specs.declared.header.Header.{Header}
-use Rattle.pos_layout.specs.Forms.{own}
+use Rattle.pos_layout.specs.Layouts.{own}
 use Rattle.pos_layout.specs.Files.{file_of}
 use Rattle.pos_layout.specs.Images.{Holds, IsShutOr, opened}
 use Rattle.pos_layout.specs.Writing.{Works}
 use Rattle.pos_layout.proofs.WorksLemmas.{works_exit, works_ok}
 use Rattle.pos_layout.specs.Drafts.{Stands, plot_of, draft_bytes}
 use Rattle.pos_layout.specs.contracts.writer.PlotWriter.{the_view}
-use Rattle.pos_layout.proofs.WriterLemmas.{all_ended, finished_header, finished_file, plot_from_draft, own_form, length-draft, length-opened}
+use Rattle.pos_layout.proofs.WriterLemmas.{all_ended, finished_header, finished_file, plot_from_draft, own_layout, length-draft, length-opened}
 use Rattle.pos_layout.proofs.FilePlots.{file_stores}
 use Rattle.pos_layout.proofs.writer.PlotWriter.finish.Goals as goal
 
@@ -83,5 +83,5 @@ returns-clause-ok g c = λ p stands.
     rw (← c.self.view_is) (record {
       size = size;
       bytes = bytes;
-      stores = file_stores own (plot_of p) own_form (plot_from_draft p s.keeps.draft (all_ended own w p v (omega arith) s seven).0);
+      stores = file_stores own (plot_of p) own_layout (plot_from_draft p s.keeps.draft (all_ended own w p v (omega arith) s seven).0);
     })

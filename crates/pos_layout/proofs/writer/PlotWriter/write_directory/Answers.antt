@@ -1,11 +1,11 @@
 use Rattle.std.proofs.Common.{◌≡◌, ◌<◌, ◌+◌, [], ◌++◌, length, refl, sym, ap, subst, rules, arith}
 use Rattle.std.proofs.lemmas.List.{take_more_set}
-use Rattle.pos_layout.specs.Forms.{own}
+use Rattle.pos_layout.specs.Layouts.{own}
 use Rattle.pos_layout.specs.Files.{parks_in}
 use Rattle.pos_layout.specs.Images.{HoldsShut}
 use Rattle.pos_layout.specs.Drafts.{Keeps, draft_bytes}
 use Rattle.pos_layout.specs.contracts.writer.PlotWriter.{the_view}
-use Rattle.pos_layout.proofs.WriterLemmas.{kept_table, keeps_short, own_form}
+use Rattle.pos_layout.proofs.WriterLemmas.{kept_table, keeps_short, own_layout}
 use Rattle.pos_layout.proofs.writer.PlotWriter.write_directory.Goals as goal
 
 pub append-requires-clause-fits : goal.append-requires-clause-fits
@@ -14,7 +14,7 @@ append-requires-clause-fits g c =
     let w = the_view c.self.inside in
     let h : Keeps own w r.0 r.1 (g.D.Disk.view c.args.disk.now) = rw (← c.self.view_is) at r.2 in
     let length_is : length c.deref.result.now ≡ length w.entries = ap length c.deref.ensures.value in
-    let fits = keeps_short own w r.0 r.1 (g.D.Disk.view c.args.disk.now) own_form h in
+    let fits = keeps_short own w r.0 r.1 (g.D.Disk.view c.args.disk.now) own_layout h in
     omega arith
 
 pub overflow_add-self-2 : goal.overflow_add-self-2
@@ -23,7 +23,7 @@ overflow_add-self-2 g c =
     let w = the_view c.self.inside in
     let h : Keeps own w r.0 r.1 (g.D.Disk.view c.args.disk.now) = rw (← c.self.view_is) at r.2 in
     let length_is : c.len.result ≡ length w.entries = search rules in
-    let fits = keeps_short own w r.0 r.1 (g.D.Disk.view c.args.disk.now) own_form h in
+    let fits = keeps_short own w r.0 r.1 (g.D.Disk.view c.args.disk.now) own_layout h in
     omega arith
 
 pub returns-clause-ok : goal.returns-clause-ok

@@ -1,12 +1,12 @@
 use Rattle.std.proofs.Common.{◌≡◌, ◌≤◌, ◌+◌, [], ◌++◌, length, refl, sym, ap, ◌∙◌, subst, rules, arith}
 use Rattle.pos_rice.specs.Park.{Park}
-use Rattle.pos_layout.specs.Forms.{own}
+use Rattle.pos_layout.specs.Layouts.{own}
 use Rattle.pos_layout.specs.Fields.{entry_fields}
 use Rattle.pos_layout.specs.Files.{entry_for}
 use Rattle.pos_layout.specs.Images.{HoldsShut}
 use Rattle.pos_layout.specs.Drafts.{Keeps, draft_bytes}
 use Rattle.pos_layout.specs.contracts.writer.PlotWriter.{the_view}
-use Rattle.pos_layout.proofs.WriterLemmas.{kept_park, keeps_numbers, numbers_at, grown_fits, own_form}
+use Rattle.pos_layout.proofs.WriterLemmas.{kept_park, keeps_numbers, numbers_at, grown_fits, own_layout}
 use Rattle.pos_layout.proofs.writer.PlotWriter.write_park.Goals as goal
 
 pub encode_park-requires-clause-numbers : goal.encode_park-requires-clause-numbers
@@ -24,7 +24,7 @@ append-requires-clause-fits g c =
     let park : Park w.size w.park c.in_ok-park.park.items = search rules in
     let length_is : length c.deref-4.result.now ≡ length c.in_ok-park.park.items = ap length c.deref-4.ensures.value in
     let few : length w.park ≤ 2048 = search rules in
-    let fits = grown_fits own w r.0 r.1 (g.D.Disk.view c.args.disk.now) c.in_ok-park.park.items (length c.deref-4.result.now) h park few length_is own_form in
+    let fits = grown_fits own w r.0 r.1 (g.D.Disk.view c.args.disk.now) c.in_ok-park.park.items (length c.deref-4.result.now) h park few length_is own_layout in
     omega arith
 
 pub overflow_add-self : goal.overflow_add-self
@@ -35,7 +35,7 @@ overflow_add-self g c =
     let park : Park w.size w.park c.in_ok-park.park.items = search rules in
     let length_is : c.len.result ≡ length c.in_ok-park.park.items = search rules in
     let few : length w.park ≤ 2048 = search rules in
-    let fits = grown_fits own w r.0 r.1 (g.D.Disk.view c.args.disk.now) c.in_ok-park.park.items c.len.result h park few length_is own_form in
+    let fits = grown_fits own w r.0 r.1 (g.D.Disk.view c.args.disk.now) c.in_ok-park.park.items c.len.result h park few length_is own_layout in
     omega arith
 
 pub returns-clause-ok : goal.returns-clause-ok

@@ -1,6 +1,6 @@
 use Rattle.std.proofs.Common.{◌≡◌, ◌≤◌, [], length, sym, subst, rules, arith}
 use Rattle.std.proofs.lemmas.List.{nil_from_length}
-use Rattle.pos_layout.specs.Forms.{own}
+use Rattle.pos_layout.specs.Layouts.{own}
 use Rattle.pos_layout.specs.Drafts.{Keeps}
 use Rattle.pos_layout.specs.contracts.writer.PlotWriter.{the_view}
 use Rattle.pos_layout.proofs.ShutLemmas.{on_ok}

@@ -1,6 +1,6 @@
 use Rattle.std.proofs.Common.{◌≡◌, ℕ, length, refl, ap, subst, ◌∙◌, arith}
 use Rattle.std.proofs.lemmas.List.{length-replicate}
-use Rattle.pos_marks.specs.Bits.{AreCounts}
+use Rattle.pos_marks.specs.Bits.{AreRankCounts}
 use Rattle.pos_marks.specs.Pages.{BeginsWith}
 use Rattle.pos_marks.proofs.MarkLemmas.{marked_sealed}
 use Rattle.pos_marks.proofs.set.Marks.seal.Goals as goal
@@ -15,7 +15,7 @@ returns-clause-marked g c = λ p h.
     let size = c.in_ok-write_pages.ensures.size in
     marked_sealed m _ p (g.D.Disk.view c.args.disk.now) b h c.requires.unsealed c.write_pages.ensures.kept refl refl refl refl
     (ap length c.in_ok-page.ensures.ok ∙ length-replicate {A = ℕ} 65536 0)
-    (subst (λ xs. AreCounts xs c.in_ok-counts.counts.items) bits c.in_ok-counts.ensures.ok)
+    (subst (λ xs. AreRankCounts xs c.in_ok-counts.counts.items) bits c.in_ok-counts.ensures.ok)
     (omega arith)
     (subst (λ xs. BeginsWith m.file.0 xs b) same c.in_ok-write_pages.ensures.ok)
 

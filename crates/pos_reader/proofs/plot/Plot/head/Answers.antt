@@ -1,7 +1,7 @@
 -- The head is that of the entry.
 use Rattle.std.proofs.Common.{◌∙◌, Err, sym, ap, subst}
 use Rattle.std.proofs.lemmas.Result.{err_from_is_err_and}
-use Rattle.pos_layout.specs.Forms.{own}
+use Rattle.pos_layout.specs.Layouts.{own}
 use Rattle.pos_layout.specs.Reading.{head}
 use Rattle.pos_reader.specs.Plots.{IsPlotFile}
 use Rattle.pos_reader.proofs.AnswerLemmas.{answers_refused, damage_of, head_found, head_refused}

@@ -4,7 +4,7 @@ use Rattle.std.proofs.lemmas.Result.{err_from_is_err_and}
 use Rattle.std.proofs.lemmas.List.{get_or-take, length-take}
 use Rattle.std.proofs.lemmas.List.Elements.{All-get_or}
 use Rattle.pos_layout.specs.declared.damage.Damage.TheVariants.{Pointer}
-use Rattle.pos_layout.specs.Forms.{own, park_count}
+use Rattle.pos_layout.specs.Layouts.{own, park_count}
 use Rattle.pos_layout.specs.Fields.{count_of}
 use Rattle.pos_layout.specs.Lists.{points_inside}
 use Rattle.pos_layout.specs.Reading.{num, tested}

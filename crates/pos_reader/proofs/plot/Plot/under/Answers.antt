@@ -1,7 +1,7 @@
 -- The count is that of the park's numbers.
 use Rattle.std.proofs.Common.{◌∙◌, Ok, Err, sym, ap, subst, take, count_by, nat_lt}
 use Rattle.std.proofs.lemmas.Result.{err_from_is_err_and}
-use Rattle.pos_layout.specs.Forms.{own}
+use Rattle.pos_layout.specs.Layouts.{own}
 use Rattle.pos_layout.specs.Reading.{under}
 use Rattle.pos_reader.specs.Plots.{IsPlotFile}
 use Rattle.pos_reader.proofs.AnswerLemmas.{answers_refused, under_found, under_refused}

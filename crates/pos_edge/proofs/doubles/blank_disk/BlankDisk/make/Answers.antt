@@ -1,7 +1,7 @@
 -- The name was not there, and is now.
 use Rattle.std.proofs.Common.{◌≡◌, refl, ◌∙◌, ap, subst, rules, string_bytes}
 use Rattle.pos_edge.specs.BlankDisks.{BlankState}
-use Rattle.pos_edge.specs.BlankFiles.{names_of, IsThereAt}
+use Rattle.pos_edge.specs.BlankFiles.{blank_names, IsThereAt}
 use Rattle.pos_edge.proofs.Blanks.{no_name, has_name, found_of, none_of, place_named, memory_exactly, made_exactly}
 use Rattle.pos_edge.proofs.doubles.blank_disk.BlankDisk.make.Goals as goal
 
@@ -14,8 +14,8 @@ returns-then-is_some-clause-exactly c =
 pub returns-clause-made : goal.returns-clause-made
 returns-clause-made c =
     let name : string_bytes c.in-Ok.text ≡ c.args.name.now = search rules in
-    let same : names_of c.reserve.new.self.items ≡ c.args.self.now.names = ap names_of c.reserve.ensures.items ∙ ap (λ (d : BlankState). d.names) c.self.view_is in
-    place_named c.reserve.new.self.items c.args.name.now (string_bytes c.in-Ok.text) (names_of c.add.new.files.items) c.args.self.now same c.add.ensures name
+    let same : blank_names c.reserve.new.self.items ≡ c.args.self.now.names = ap blank_names c.reserve.ensures.items ∙ ap (λ (d : BlankState). d.names) c.self.view_is in
+    place_named c.reserve.new.self.items c.args.name.now (string_bytes c.in-Ok.text) (blank_names c.add.new.files.items) c.args.self.now same c.add.ensures name
 
 pub returns-then-is_err-clause-exactly : goal.returns-then-is_err-clause-exactly
 returns-then-is_err-clause-exactly c = memory_exactly c.args.name.now c.args.self.now

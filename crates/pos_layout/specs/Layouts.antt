@@ -4,7 +4,7 @@ use Rattle.std.specs.Prelude.{◌≡◌, ℕ, ◌+◌, ◌-◌, ◌*◌, ◌/◌
 use Rattle.pos_bits.specs.Bits.{AreBytes}
 use Rattle.pos_rice.specs.declared.TheConstants.{MOST_NUMBERS}
 
-pub record Form : Type 0 where
+pub record Layout : Type 0 where
   -- bytes 1 to 15 of the file
   pub name : List ℕ
   -- how many numbers a park has, but for the last one of a table
@@ -13,11 +13,11 @@ pub record Form : Type 0 where
   pub digest : ℕ
 
 -- the first layout
-abbrev pub own : Form
+abbrev pub own : Layout
 own = record { name = codes "SPACEPLOT-OWN-1"; full = MOST_NUMBERS; digest = 8 }
 
--- a form that a file can have
-pub record IsForm (l : Form) : Type 0 where
+-- a layout that a file can have
+pub record IsLayout (l : Layout) : Type 0 where
   pub name_length : length l.name ≡ 15
   pub name_bytes : AreBytes l.name
   -- one number alone, or two, may need a longer park than `longest_park` allows
@@ -26,17 +26,17 @@ pub record IsForm (l : Form) : Type 0 where
   pub digest : l.digest ≤ 32
 
 -- the length of a directory entry: offset, length, count, digest and head of a park
-abbrev pub entry_bytes : Form → ℕ
+abbrev pub entry_bytes : Layout → ℕ
 entry_bytes l = 24 + l.digest
 
 -- the greatest length of a park at size k
-abbrev pub longest_park : Form → ℕ → ℕ
+abbrev pub longest_park : Layout → ℕ → ℕ
 longest_park l k = if nat_le k 32 then 9 * l.full else 14 * l.full
 
 -- how many parks n numbers fill, the last one perhaps not wholly
-abbrev pub parks_of : Form → ℕ → ℕ
+abbrev pub parks_of : Layout → ℕ → ℕ
 parks_of l n = (n + (l.full - 1)) / l.full
 
 -- how many numbers a park of a table of n numbers has: all that a park can have, or what is left
-abbrev pub park_count : Form → ℕ → ℕ → ℕ
+abbrev pub park_count : Layout → ℕ → ℕ → ℕ
 park_count l n park = min l.full (n - l.full * park)

@@ -1,7 +1,7 @@
 //! What the layout fixes of parks.
 ghost use Rattle.std.specs.Prelude.{◌≡◌, ◌*◌, ◌^◌, ◌<◌, ◌≤◌, length, take};
 ghost use Rattle.sha2.specs.Sha256.{sha256};
-ghost use Rattle.pos_layout.specs.Forms.{own, longest_park, park_count, parks_of};
+ghost use Rattle.pos_layout.specs.Layouts.{own, longest_park, park_count, parks_of};
 
 use pos_rice::MOST_NUMBERS;
 use pos_tuple::Size;
