@@ -6,7 +6,8 @@ ghost use Rattle.pos_edge.specs.Images.{ImagesBy, MayVanish};
 ghost use Rattle.pos_edge.specs.Calls.{AreBytesAt, IsThere, IsWritten, WasThere, IsHalfCreated, Ends, IsGone, IsAsItWasOrGone};
 ghost use Rattle.pos_edge.specs.ScratchNames.{next_name, with_file, without_file, IsLeft, StandsOn};
 ghost use Rattle.pos_edge.specs.ScratchWork.{IsNameBetween, IsScratchWork, IsScratchDone};
-ghost use Rattle.pos_record.specs.Fields.{IsRecordSize};
+ghost use Rattle.pos_bits.specs.Bits.{bits_of};
+ghost use Rattle.pos_record.specs.Fields.{IsRecordSize, part_at};
 ghost use Rattle.pos_runs.specs.Pages.{per_page, ListStands, ListHolds};
 ghost use Rattle.pos_runs.specs.Lists.{IsListWrite, IsListRead, reads_after, reads_for, flushed, with_page, HasRoom, HasOneMore, IsSealedFrom, IsNewList, IsPageFault};
 
@@ -189,7 +190,7 @@ impl<R: Record<K>, const K: u32> Ordered<R, K> {
         let records = (PAGE_BITS / width) as u64;
         let page = i / records;
         self.ready(disk, page)?;
-        Ok(R::take_at(self.bytes.as_slice(), (i % records) * width as u64))
+        Ok(record_at::<R, K>(self.bytes.as_slice(), (i % records) * width as u64))
     }
 
     /// Removes the list's file, also after a refusal of another call. Takes no memory.
@@ -304,5 +305,24 @@ impl<R: Record<K>, const K: u32> Ordered<R, K> {
         read_page(disk, self.file, page, self.bytes.as_mut_slice())?;
         self.page = page;
         Ok(())
+    }
+}
+
+// So many bytes hold a record that begins at any bit of the first one, and the window that its last bits are read by.
+const WINDOW: usize = 80;
+
+// As `take_at`, over a few bytes of the page where there are so many, so that one test serves all fields.
+#[inline(always)]
+fn record_at<R: Record<K>, const K: u32>(bytes: &[u8], at: u64) -> R
+    requires size { IsRecordSize K }
+    requires few { length bytes.now < 2 ^ 40 }
+    requires there { at + R.bit_count ≤ 8 * length bytes.now }
+    ensures { result ≡ R.read (part_at at R.bit_count (bits_of bytes.now)) }
+{
+    let byte = (at / 8) as usize;
+    if bytes.len() - byte >= WINDOW {
+        R::take_at(&bytes[byte..byte + WINDOW], at % 8)
+    } else {
+        R::take_at(bytes, at)
     }
 }
