@@ -1,0 +1,16 @@
+//! Two uses of lists on pages, proved over the public contracts of `pos_runs` alone: pairs copied from one list to
+//! another, and eight lists of which one is read and one is pushed on. They show what a caller pays for its lists: one
+//! line of proof for each.
+//!
+//! The tests try each kind of record at four sizes, and each failing call of a list's life.
+//! Source: this project's own.
+#![tactic(auto)]
+
+mod copy;
+mod eight;
+
+pub use copy::copy_pairs;
+pub use eight::EightLists;
+
+#[cfg(test)]
+mod tests;
