@@ -1,4 +1,9 @@
 pub mod CallLemmas
+pub mod CauseLemmas
+pub mod DamageLemmas
+pub mod ListingLemmas
 pub mod PlaceLemmas
 pub mod SpanLemmas
 pub mod TupleLemmas
+pub mod WholeSpans
+pub mod WholeLists

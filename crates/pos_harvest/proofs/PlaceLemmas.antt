@@ -3,7 +3,7 @@ use Rattle.std.proofs.Common.{◌≡◌, ℕ, zero, suc, ◌+◌, ◌-◌, ◌*�
 use Rattle.pos_order.proofs.PlotOrderLemmas.{double}
 use Rattle.pos_lists.specs.Pairs.{greater, lesser}
 use Rattle.pos_lists.specs.PlotLists.{place_in}
-use Rattle.pos_lists.specs.Walk.{after, walk, limb, walk_from, limb_from}
+use Rattle.pos_lists.specs.Walk.{walk, limb, walk_from, limb_from}
 use Rattle.pos_layout.specs.declared.damage.Damage.{Damage}
 use Rattle.pos_layout.specs.declared.header.Header.{Header}
 use Rattle.pos_layout.specs.Fields.{count_of}

@@ -1,18 +1,18 @@
 -- The search among the parks of table 7, and where it ends.
-use Rattle.std.proofs.Common.{◌≡◌, ℕ, zero, suc, ◌+◌, ◌-◌, ◌*◌, ◌/◌, ◌^◌, ◌<◌, ◌≤◌, ◌⊎◌, inl, inr, true, false, nat_lt, min, List, [], ◌∷◌, length, slice_index, count_by, Result, Ok, Err, refl, sym, ap, ◌∙◌, subst, arith, pow_mono, lt-ltb, cond}
-use Rattle.std.proofs.Math.Nat.{pow-suc, mul-le-mul_left}
-use Rattle.std.proofs.lemmas.Bool.{cases_lt, cases_Bool}
+use Rattle.std.proofs.Common.{◌≡◌, ℕ, zero, suc, ◌+◌, ◌-◌, ◌*◌, ◌/◌, ◌^◌, ◌<◌, ◌≤◌, inl, inr, nat_lt, List, [], ◌∷◌, count_by, Result, Ok, Err, refl, sym, ap, ◌∙◌, subst, arith, pow_mono, cond}
+use Rattle.std.proofs.Math.Nat.{pow-suc}
+use Rattle.std.proofs.lemmas.Bool.{cases_lt}
 use Rattle.std.proofs.lemmas.List.Sums.{sum_by-cons}
 use Rattle.std.proofs.lemmas.Bool.Decides.{nat_tests}
 use Rattle.pos_edge.specs.View.{View}
 use Rattle.pos_layout.specs.declared.damage.Damage.{Damage}
 use Rattle.pos_layout.specs.declared.header.Header.{Header}
 use Rattle.pos_layout.specs.Fields.{count_of, header_in}
-use Rattle.pos_layout.specs.Forms.{own, parks_of, park_count}
-use Rattle.pos_layout.specs.Reading.{head, under, read_park, then_read}
+use Rattle.pos_layout.specs.Layouts.{own, parks_of, park_count}
+use Rattle.pos_layout.specs.Reading.{head, under, read_park}
 use Rattle.pos_layout.specs.Rules.{IsLaidOut}
 use Rattle.pos_reader.specs.Plots.{PlotState, IsPlotFile}
-use Rattle.pos_reader.specs.Spans.{BeginsBelow, BeginsFrom, EndsIn, Bound, IsLastDamage, last_count, last_parks}
+use Rattle.pos_reader.specs.Spans.{BeginsBelow, BeginsFrom, EndsIn, IsLastDamage, last_count, last_parks}
 use Rattle.pos_reader.proofs.HeaderLemmas.{parks_small}
 use Rattle.pos_reader.proofs.ParkParts.{then_parts, under_some}
 use Rattle.pos_harvest.specs.Searches.{IsBetween, IsStart}

@@ -1,19 +1,18 @@
 -- When 64 values are, in one order of halves, a proof.
-use Rattle.std.proofs.Common.{◌≡◌, ℕ, ◌^◌, ◌<◌, Bool, true, false, ◌==◌, List, length, Option, Some, None, IsSome, Result, Ok, Err, refl, sym, ap, ◌∙◌, subst, arith}
+use Rattle.std.proofs.Common.{◌≡◌, ℕ, List, Option, Some, None, Ok, Err, refl, sym, ap, ◌∙◌}
 use Rattle.std.specs.Option.{option_map}
 use Rattle.pos_tuple.specs.declared.entry.Entry.{Entry}
 use Rattle.pos_tuple.specs.Node.{node}
 use Rattle.pos_tuple.specs.Proof.{challenge_value, f7, f7_of, Proof}
-use Rattle.pos_order.specs.Order.{Turning}
 use Rattle.pos_order.specs.Turned.{IsTurnedTo, HasNoTurning}
-use Rattle.pos_order.proofs.NodeParts.{nodes_have_their_length, nodes_have_values, some_is}
+use Rattle.pos_order.proofs.NodeParts.{nodes_have_their_length, some_is}
 use Rattle.pos_order.proofs.Turnings.{one_turning}
 use Rattle.pos_order.specs.Quality.{pair_quality, quality_index}
 use Rattle.pos_lists.specs.PlotLists.{place_in}
 use Rattle.pos_lists.specs.Walk.{walk, limb}
 use Rattle.pos_layout.specs.declared.damage.Damage.{Damage}
 use Rattle.pos_layout.specs.Fields.{header_in}
-use Rattle.pos_layout.specs.Forms.{own}
+use Rattle.pos_layout.specs.Layouts.{own}
 use Rattle.pos_layout.specs.Reading.{num}
 use Rattle.pos_harvest.specs.Places.{IsNoProof, tuple_at, quality_in}
 use Rattle.pos_harvest.proofs.PlaceLemmas.{walk_from-refused, walk_from-found, limb_from-refused, limb_from-found}

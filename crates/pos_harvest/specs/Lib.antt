@@ -1,4 +1,9 @@
+pub mod CauseLaws
+pub mod DamageLaws
 pub mod Places
+pub mod ListLaws
 pub mod Listings
 pub mod PlotDamage
+pub mod Refusals
+pub mod SpanLaws
 pub mod Searches

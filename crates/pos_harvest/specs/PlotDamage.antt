@@ -5,7 +5,7 @@ use Rattle.pos_layout.specs.declared.damage.Damage.{Damage}
 use Rattle.pos_layout.specs.declared.damage.Damage.TheVariants.{NotAProof}
 use Rattle.pos_layout.specs.Causes.{OpeningCause}
 use Rattle.pos_layout.specs.Fields.{header_in, count_of}
-use Rattle.pos_layout.specs.Forms.{Form}
+use Rattle.pos_layout.specs.Layouts.{Layout}
 use Rattle.pos_layout.specs.Rules.{Opens}
 use Rattle.pos_reader.specs.ReadingCauses.{NumberCause}
 use Rattle.pos_harvest.specs.Places.{ShowsNoProof}
@@ -17,13 +17,13 @@ pub record IsPlace (b : List ℕ) (t i : ℕ) : Type 0 where
   pub inside : i < count_of (header_in b) t
 
 -- the damage of a number
-abbrev pub IsNumberDamage : Form → List ℕ → Damage → Type 0
+abbrev pub IsNumberDamage : Layout → List ℕ → Damage → Type 0
 IsNumberDamage l b d = (t i : ℕ) × IsPlace b t i × NumberCause l b t i d
 
 -- a tuple that is no proof
-abbrev pub IsProofDamage : Form → List ℕ → List ℕ → Damage → Type 0
+abbrev pub IsProofDamage : Layout → List ℕ → List ℕ → Damage → Type 0
 IsProofDamage l b c d = (i : ℕ) × IsPlace b 7 i × (d ≡ NotAProof i) × ShowsNoProof l b c i
 
 -- the damage is one of the file: of what opening tests, or of a number, or of a tuple
-abbrev pub IsDamage : Form → List ℕ → List ℕ → Damage → Type 0
+abbrev pub IsDamage : Layout → List ℕ → List ℕ → Damage → Type 0
 IsDamage l b c d = OpeningCause l b d ⊎ (Opens l b × (IsNumberDamage l b d ⊎ IsProofDamage l b c d))

@@ -2,12 +2,12 @@
 use Rattle.std.specs.Prelude.{◌≡◌, ℕ, zero, suc, ◌-◌, ◌*◌, ◌^◌, ◌<◌, ◌≤◌, List, Ok}
 use Rattle.pos_layout.specs.declared.header.Header.{Header}
 use Rattle.pos_layout.specs.Fields.{count_of}
-use Rattle.pos_layout.specs.Forms.{Form}
+use Rattle.pos_layout.specs.Layouts.{Layout}
 use Rattle.pos_layout.specs.Reading.{under}
 use Rattle.pos_reader.specs.Spans.{BeginsBelow, BeginsFrom, Bound, last_parks}
 
 -- the last of the first parks begins below f, so many as low says, and the park at high, if there is one, does not
-pub record IsBetween (l : Form) (b : List ℕ) (f low high : ℕ) : Type 0 where
+pub record IsBetween (l : Layout) (b : List ℕ) (f low high : ℕ) : Type 0 where
   pub below : 0 < low → BeginsBelow l b f (low - 1)
   pub from : high < last_parks l b → BeginsFrom l b f high
 
@@ -17,7 +17,7 @@ places_of h zero = 2 ^ h.size
 places_of h (suc t) = count_of h (suc t)
 
 -- the numbers with an f7 of f or above begin at this place, and so many parks come first that begin below f
-pub record IsStart (l : Form) (b : List ℕ) (f parks place : ℕ) : Type 0 where
+pub record IsStart (l : Layout) (b : List ℕ) (f parks place : ℕ) : Type 0 where
   pub between : IsBetween l b f parks parks
   pub bound : Bound l b f place
   pub none : parks ≡ 0 → place ≡ 0

@@ -8,10 +8,19 @@
 #![tactic(auto)]
 
 mod branch;
+mod laws;
+mod listing;
+mod refusal;
 mod span;
 mod tuple;
 
 pub use branch::quality_at;
+pub use laws::{
+    a_plots_proofs_are_listed, a_plots_span_is_shown, a_whole_files_places_are_shown,
+    damages_are_of_the_file, damages_have_their_causes,
+};
+pub use listing::{list_proofs, list_qualities};
+pub use refusal::ListRefusal;
 pub use span::find;
 pub use tuple::proof_at;
 

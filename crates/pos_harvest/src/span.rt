@@ -2,7 +2,7 @@
 ghost use Rattle.std.specs.Prelude.{◌≡◌, ◌+◌, ◌^◌, ◌<◌, ◌≤◌, ℕ, List, IfOk, IsErrOf};
 ghost use Rattle.pos_layout.specs.declared.damage.Damage.{Damage};
 ghost use Rattle.pos_layout.specs.Fields.{count_of};
-ghost use Rattle.pos_layout.specs.Forms.{own, parks_of};
+ghost use Rattle.pos_layout.specs.Layouts.{own, parks_of};
 ghost use Rattle.pos_layout.specs.Rules.{IsLaidOut};
 ghost use Rattle.pos_reader.specs.Plots.{IsOpen, IsPlotFile};
 ghost use Rattle.pos_reader.specs.Readings.{IsReading};

@@ -5,7 +5,7 @@ ghost use Rattle.pos_lists.specs.PlotLists.{place_in};
 ghost use Rattle.pos_lists.specs.Walk.{walk};
 ghost use Rattle.pos_layout.specs.declared.damage.Damage.{Damage};
 ghost use Rattle.pos_layout.specs.Fields.{count_of};
-ghost use Rattle.pos_layout.specs.Forms.{own};
+ghost use Rattle.pos_layout.specs.Layouts.{own};
 ghost use Rattle.pos_layout.specs.Reading.{num};
 ghost use Rattle.pos_layout.specs.Rules.{IsLaidOut};
 ghost use Rattle.pos_order.specs.Order.{Turning};

@@ -1,13 +1,12 @@
 -- A number of the branch is read, and the place that its bit chooses is followed.
-use Rattle.std.proofs.Common.{◌≡◌, ◌∙◌, ◌≤◌, ◌<◌, ◌-◌, ◌*◌, ◌^◌, ℕ, List, Ok, Err, sym, ap, subst, refl, arith}
+use Rattle.std.proofs.Common.{◌≡◌, ◌∙◌, ◌≤◌, ◌<◌, ◌-◌, ◌^◌, ℕ, Err, sym, ap, subst, arith}
 use Rattle.std.proofs.lemmas.Result.{err_from_is_err_and}
-use Rattle.pos_lists.specs.Pairs.{greater, lesser}
+use Rattle.pos_lists.specs.Pairs.{greater}
 use Rattle.pos_lists.specs.Walk.{limb}
 use Rattle.pos_layout.specs.Fields.{count_of}
-use Rattle.pos_layout.specs.Forms.{own}
+use Rattle.pos_layout.specs.Layouts.{own}
 use Rattle.pos_layout.specs.Reading.{num}
 use Rattle.pos_reader.specs.Answers.{Answers}
-use Rattle.pos_reader.specs.Plots.{IsOpen}
 use Rattle.pos_reader.proofs.AnswerLemmas.{answers_refused, damage_of}
 use Rattle.pos_layout.specs.Rules.{IsLaidOut}
 use Rattle.pos_harvest.proofs.PlaceLemmas.{point_small, value_inside, place_below, half_is, limb_refused, limb_ends, limb_lesser, limb_greater}

@@ -1,8 +1,7 @@
 -- The head of the park in the middle is read, and the search goes on in one half.
-use Rattle.std.proofs.Common.{◌≡◌, ◌∙◌, ◌+◌, ◌-◌, ◌/◌, ◌<◌, ◌≤◌, ◌^◌, List, ℕ, Ok, Err, IfOk, refl, sym, ap, subst, arith}
+use Rattle.std.proofs.Common.{◌≡◌, ◌+◌, ◌-◌, ◌/◌, ◌<◌, ◌≤◌, List, ℕ, arith}
 use Rattle.std.proofs.lemmas.Result.{err_from_is_err_and}
-use Rattle.pos_layout.specs.Forms.{own}
-use Rattle.pos_layout.specs.Reading.{head}
+use Rattle.pos_layout.specs.Layouts.{own}
 use Rattle.pos_reader.specs.declared.refusal.ReadRefusal.TheVariants.{Damage as Found}
 use Rattle.pos_reader.specs.Plots.{IsPlotFile}
 use Rattle.pos_reader.proofs.AnswerLemmas.{damage_of}

@@ -1,9 +1,9 @@
 -- Two starts, the second from the parks of the first on.
-use Rattle.std.proofs.Common.{◌≡◌, ◌∙◌, ◌+◌, ◌≤◌, max, List, ℕ, refl, sym, ap, subst, arith}
+use Rattle.std.proofs.Common.{◌≡◌, ◌∙◌, ◌+◌, ◌≤◌, sym, ap, subst, arith}
 use Rattle.pos_tuple.specs.Proof.{challenge_value}
-use Rattle.pos_layout.specs.Forms.{own, parks_of}
+use Rattle.pos_layout.specs.Layouts.{own, parks_of}
 use Rattle.pos_layout.specs.Fields.{count_of, header_in}
-use Rattle.pos_reader.specs.Spans.{Bound, Span}
+use Rattle.pos_reader.specs.Spans.{Bound}
 use Rattle.pos_harvest.proofs.SpanLemmas.{same_parks, between_all, between_next, starts_rise}
 use Rattle.pos_harvest.proofs.span.find.Goals as goal
 

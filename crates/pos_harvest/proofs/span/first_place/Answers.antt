@@ -1,9 +1,8 @@
 -- The last of the first parks is read.
-use Rattle.std.proofs.Common.{◌≡◌, ◌∙◌, ◌+◌, ◌-◌, ◌*◌, ◌<◌, ◌≤◌, ◌^◌, List, ℕ, Ok, Err, refl, sym, ap, subst, arith}
+use Rattle.std.proofs.Common.{◌≡◌, ◌+◌, ◌-◌, ◌*◌, ◌<◌, ◌≤◌, ℕ, sym, subst, arith}
 use Rattle.std.proofs.lemmas.Result.{err_from_is_err_and}
-use Rattle.pos_layout.specs.Forms.{own, parks_of, park_count}
+use Rattle.pos_layout.specs.Layouts.{own, parks_of, park_count}
 use Rattle.pos_layout.specs.Fields.{count_of}
-use Rattle.pos_layout.specs.Reading.{under}
 use Rattle.pos_reader.specs.declared.refusal.ReadRefusal.TheVariants.{Damage as Found}
 use Rattle.pos_reader.proofs.AnswerLemmas.{damage_of}
 use Rattle.pos_reader.proofs.HeaderLemmas.{parks_small}

@@ -1,7 +1,7 @@
 -- The search, and then one look into a park.
-use Rattle.std.proofs.Common.{◌≡◌, ◌∙◌, ◌+◌, ◌-◌, ◌*◌, ◌<◌, ◌≤◌, ◌^◌, List, ℕ, Ok, Err, refl, sym, ap, subst, arith}
+use Rattle.std.proofs.Common.{◌≡◌, ◌∙◌, ◌+◌, ◌<◌, ◌^◌, Ok, Err, sym, ap, subst, arith}
 use Rattle.std.proofs.lemmas.Result.{err_from_is_err_and}
-use Rattle.pos_layout.specs.Forms.{own, parks_of}
+use Rattle.pos_layout.specs.Layouts.{own, parks_of}
 use Rattle.pos_layout.specs.Fields.{count_of}
 use Rattle.pos_layout.specs.Rules.{IsLaidOut}
 use Rattle.pos_reader.specs.declared.refusal.ReadRefusal.TheVariants.{Damage as Found}

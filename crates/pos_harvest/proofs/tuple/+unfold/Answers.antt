@@ -1,15 +1,13 @@
 -- A number is read, and the values of its lesser and then of its greater place are written to the halves.
-use Rattle.std.proofs.Common.{◌≡◌, ◌∙◌, ◌≤◌, ◌<◌, ◌+◌, ◌-◌, ◌*◌, ◌^◌, ℕ, List, ◌++◌, Ok, Err, IsErrOf, length, sym, ap, subst, refl, arith}
-use Rattle.std.specs.Prelude.{All}
+use Rattle.std.proofs.Common.{◌≡◌, ◌∙◌, ◌≤◌, ◌<◌, ◌+◌, ◌-◌, ◌*◌, ◌^◌, ℕ, List, ◌++◌, Ok, Err, length, sym, ap, subst, arith}
 use Rattle.std.proofs.lemmas.Result.{err_from_is_err_and}
-use Rattle.pos_lists.specs.Pairs.{greater, lesser}
+use Rattle.pos_lists.specs.Pairs.{greater}
 use Rattle.pos_lists.specs.Walk.{walk}
-use Rattle.pos_layout.specs.Forms.{own}
+use Rattle.pos_layout.specs.Layouts.{own}
 use Rattle.pos_layout.specs.Reading.{num}
 use Rattle.pos_layout.specs.Rules.{IsLaidOut}
-use Rattle.pos_layout.specs.declared.damage.Damage.{Damage}
 use Rattle.pos_reader.specs.declared.refusal.ReadRefusal.TheVariants.{Damage as Found}
-use Rattle.pos_reader.specs.Plots.{IsOpen, IsPlotFile}
+use Rattle.pos_reader.specs.Plots.{IsPlotFile}
 use Rattle.pos_reader.proofs.AnswerLemmas.{damage_of}
 use Rattle.pos_reader.proofs.ReadingLemmas.{reading_after, reading_refused}
 use Rattle.pos_order.proofs.PlotOrderLemmas.{half_count, half_twice}

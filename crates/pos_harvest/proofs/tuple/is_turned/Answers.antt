@@ -1,5 +1,5 @@
 -- The one turning with a node is a proof where its f7 is the challenge's.
-use Rattle.std.proofs.Common.{◌≡◌, ◌∙◌, ◌/◌, true, false, sym, ap, subst, arith}
+use Rattle.std.proofs.Common.{◌≡◌, ◌∙◌, ◌/◌, sym, ap, subst}
 use Rattle.std.proofs.lemmas.Bool.{false≢true}
 use Rattle.pos_tuple.specs.Proof.{challenge_value}
 use Rattle.pos_order.specs.Turned.{IsTurnedTo, HasNoTurning}

@@ -1,9 +1,9 @@
 -- The values of the place, turned.
-use Rattle.std.proofs.Common.{◌≡◌, ◌∙◌, ◌≤◌, ◌<◌, ◌^◌, List, ℕ, Ok, Err, refl, sym, ap, subst, inl, inr, arith}
+use Rattle.std.proofs.Common.{◌∙◌, Err, refl, ap, subst, inl, inr, arith}
 use Rattle.std.proofs.lemmas.Result.{err_from_is_err_and}
 use Rattle.pos_tuple.specs.Proof.{Proof}
 use Rattle.pos_layout.specs.declared.damage.Damage.TheVariants.{NotAProof}
-use Rattle.pos_layout.specs.Forms.{own}
+use Rattle.pos_layout.specs.Layouts.{own}
 use Rattle.pos_reader.proofs.ReadingLemmas.{reading_done, reading_damaged}
 use Rattle.pos_reader.proofs.AnswerLemmas.{damage_of}
 use Rattle.pos_harvest.proofs.CallLemmas.{proof_refused}

@@ -1,12 +1,10 @@
 -- The number of table 7, and the walk from its place.
-use Rattle.std.proofs.Common.{◌≡◌, ◌∙◌, ◌≤◌, ◌<◌, ◌^◌, List, ℕ, Ok, Err, refl, sym, ap, subst, arith}
+use Rattle.std.proofs.Common.{◌∙◌, ◌<◌, Ok, Err, refl, sym, ap, subst, arith}
 use Rattle.std.proofs.lemmas.Result.{err_from_is_err_and}
 use Rattle.pos_lists.specs.PlotLists.{place_in}
-use Rattle.pos_layout.specs.Forms.{own}
-use Rattle.pos_layout.specs.Reading.{num}
-use Rattle.pos_layout.specs.Fields.{count_of, header_in}
+use Rattle.pos_layout.specs.Layouts.{own}
+use Rattle.pos_layout.specs.Fields.{count_of}
 use Rattle.pos_layout.specs.Rules.{IsLaidOut}
-use Rattle.pos_reader.specs.declared.refusal.ReadRefusal.TheVariants.{Damage as Found}
 use Rattle.pos_reader.proofs.AnswerLemmas.{answers_refused, damage_of}
 use Rattle.pos_reader.proofs.ReadingLemmas.{reading_after, reading_refused, reading_done}
 use Rattle.pos_harvest.specs.Places.{tuple_at}
