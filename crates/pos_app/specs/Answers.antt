@@ -1,18 +1,10 @@
 -- How a run ends: what it writes, and the status with which it ends.
-use Rattle.std.specs.Prelude.{ℕ, ◌≡◌, ◌≢◌, ◌⊎◌, List, Option}
+use Rattle.std.specs.Prelude.{ℕ, ◌≡◌, ◌≢◌, ◌⊎◌, List}
 use Rattle.pos_edge.specs.Faults.{Rose}
 use Rattle.pos_edge.specs.Frame.{SameFaults}
-use Rattle.pos_edge.specs.Sinks.{followed_by, AppendsPartOf}
+use Rattle.pos_edge.specs.Sinks.{Heard, followed_by, AppendsPartOf}
 use Rattle.pos_edge.specs.View.{View}
 use Rattle.pos_app.specs.Statuses.{disk_fault_status, sink_fault_status, memory_status}
-
--- a sink at a moment: the text that it was given, where it tells it, and how often it has failed
-pub record Heard : Type 0 where
-  pub text : Option (List ℕ)
-  pub faults : ℕ
-
-abbrev pub heard : Option (List ℕ) → ℕ → Heard
-heard text faults = record { text = text; faults = faults }
 
 -- the sink failed: a front part of the text was written
 pub record IsCutShort (text : List ℕ) (result : ℕ) (old new : Heard) : Type 0 where

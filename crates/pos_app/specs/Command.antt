@@ -10,6 +10,10 @@ use Rattle.pos_app.specs.Words.{size_word, bytes_word, hash_word, file_word}
 pub data Command : Type 0 where
   -- judge the bytes of a proof for a challenge, over the plot of an id and a size
   Verify : (id : List ℕ) (k : ℕ) (challenge proof : List ℕ) → Command
+  -- list the proofs for a challenge that a plot file holds
+  Prove : (file challenge : List ℕ) → Command
+  -- list the qualities of these proofs
+  Quality : (file challenge : List ℕ) → Command
   -- show what the header of a plot file says
   Inspect : (file : List ℕ) → Command
 
@@ -28,6 +32,16 @@ verify_command (id ∷ k ∷ challenge ∷ proof ∷ []) =
     verify_of (hash_word id) (size_word k) (hash_word challenge) (bytes_word proof)
 verify_command words = None
 
+-- a plot file and a challenge, if both words are what they have to be
+abbrev pub question_of : Option (List ℕ) → Option (List ℕ) → Option (List ℕ × List ℕ)
+question_of (Some file) (Some challenge) = Some (file, challenge)
+question_of file challenge = None
+
+-- the words behind `prove` and `quality`: FILE CHALLENGE
+abbrev pub question_words : List (List ℕ) → Option (List ℕ × List ℕ)
+question_words (file ∷ challenge ∷ []) = question_of (file_word file) (hash_word challenge)
+question_words words = None
+
 -- the word behind `inspect`: FILE
 abbrev pub inspect_command : List (List ℕ) → Option Command
 inspect_command (file ∷ []) = option_map Inspect (file_word file)
@@ -38,6 +52,8 @@ abbrev pub command_of : List (List ℕ) → Option Command
 command_of [] = None
 command_of (name ∷ words) =
     if is_name (codes "verify") name then verify_command words
+    else if is_name (codes "prove") name then option_map (λ (q : List ℕ × List ℕ). Prove q.0 q.1) (question_words words)
+    else if is_name (codes "quality") name then option_map (λ (q : List ℕ × List ℕ). Quality q.0 q.1) (question_words words)
     else if is_name (codes "inspect") name then inspect_command words
     else None
 
@@ -51,8 +67,32 @@ IsNoCommand words = command_of (map string_bytes words) ≡ None
 -- a command that makes calls on the disk
 abbrev pub needs_disk : Command → Bool
 needs_disk (Verify id k challenge proof) = false
+needs_disk (Prove file challenge) = true
+needs_disk (Quality file challenge) = true
 needs_disk (Inspect file) = true
 
 -- the words are no such command
 abbrev pub NeedsNoDisk : List (String Global) → Type 0
 NeedsNoDisk words = IfSome (command_of (map string_bytes words)) (λ command. IsFalse (needs_disk command))
+
+-- a command on the plot file of this name
+abbrev pub IsOnFile : List ℕ → Command → Type 0
+IsOnFile name (Verify id k challenge proof) = ⊥
+IsOnFile name (Prove file challenge) = file ≡ name
+IsOnFile name (Quality file challenge) = file ≡ name
+IsOnFile name (Inspect file) = file ≡ name
+
+-- the words ask something of this plot file
+abbrev pub AsksOfFile : List (String Global) → List ℕ → Type 0
+AsksOfFile words file = (command : Command) × Asks words command × IsOnFile file command
+
+-- a command for this challenge, if it has one
+abbrev pub IsForChallenge : List ℕ → Command → Type 0
+IsForChallenge c (Verify id k challenge proof) = challenge ≡ c
+IsForChallenge c (Prove file challenge) = challenge ≡ c
+IsForChallenge c (Quality file challenge) = challenge ≡ c
+IsForChallenge c (Inspect file) = Unit {0}
+
+-- the words ask something of this plot file, for this challenge
+abbrev pub AsksFor : List (String Global) → List ℕ → List ℕ → Type 0
+AsksFor words file c = (command : Command) × Asks words command × IsOnFile file command × IsForChallenge c command

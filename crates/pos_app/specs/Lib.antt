@@ -5,5 +5,9 @@ pub mod Statuses
 pub mod Texts
 pub mod Answers
 pub mod VerifyAnswers
+pub mod FileAnswers
 pub mod InspectAnswers
+pub mod ListAnswers
+pub mod PlotAnswers
+pub mod Refused
 pub mod Obeyed

@@ -1,8 +1,9 @@
 -- The lines that the program writes: words with one blank between two of them, and one newline at the end. Numbers are
 -- decimal without leading zeros, bytes are hexadecimal in lower case.
-use Rattle.std.specs.Prelude.{ℕ, suc, List, [], ◌∷◌, ◌++◌, codes}
+use Rattle.std.specs.Prelude.{ℕ, suc, List, [], ◌∷◌, ◌++◌, codes, length, map}
 use Rattle.std.specs.Fmt.{decimal}
 use Rattle.hex.specs.Hex.{encode_lower}
+use Rattle.pos_order.specs.Values.{value_bytes}
 use Rattle.pos_layout.specs.declared.header.Header.{Header}
 use Rattle.pos_layout.specs.Fields.{count_of}
 use Rattle.pos_layout.specs.declared.damage.HeaderField.{HeaderField}
@@ -58,6 +59,21 @@ inspect_text h =
     header_lines h.id.0 h.size
     (count_of h 1 ∷ count_of h 2 ∷ count_of h 3 ∷ count_of h 4 ∷ count_of h 5 ∷ count_of h 6 ∷ count_of h 7 ∷ [])
     h.file_length
+
+-- a line for each word
+abbrev pub lines_of : List (List ℕ) → List ℕ
+lines_of [] = []
+lines_of (word ∷ words) = line (word ∷ []) ++ lines_of words
+
+-- what is said of proofs of size k: the bytes of each on a line, and then how many they are
+abbrev pub proofs_text : ℕ → List (List ℕ) → List ℕ
+proofs_text k proofs =
+    lines_of (map (λ xs. encode_lower (value_bytes k xs)) proofs) ++ line (decimal (length proofs) ∷ codes "proofs" ∷ [])
+
+-- what is said of qualities: each on a line, and then how many they are
+abbrev pub qualities_text : List (List ℕ) → List ℕ
+qualities_text qualities =
+    lines_of (map encode_lower qualities) ++ line (decimal (length qualities) ∷ codes "qualities" ∷ [])
 
 -- what is said where no file has the name, and where the disk failed
 abbrev pub absent_line : List ℕ → List ℕ

@@ -4,7 +4,8 @@ use Rattle.pos_verify.specs.Verdict.{IsProofBytes, IsRight}
 use Rattle.pos_verify.specs.declared.Verdict.{Verdict}
 use Rattle.pos_verify.specs.declared.Verdict.TheVariants.{Accepted, WrongLength, NoMatch, WrongChallenge}
 use Rattle.pos_app.specs.Statuses.{done_status, refused_status}
-use Rattle.pos_app.specs.Answers.{EndsWith, Heard, IsUnsaid, Speaks}
+use Rattle.pos_edge.specs.Sinks.{Heard}
+use Rattle.pos_app.specs.Answers.{EndsWith, IsUnsaid, Speaks}
 use Rattle.pos_app.specs.Texts.{verdict_line}
 
 -- the status of a verdict

@@ -4,7 +4,7 @@ ghost use Rattle.std.specs.List.{AllPass};
 ghost use Rattle.std.specs.Option.{option_map};
 ghost use Rattle.hex.specs.Hex.{is_hex_digit};
 ghost use Rattle.pos_app.specs.Words.{decimal_word, size_word, hash_word, bytes_word, file_word};
-ghost use Rattle.pos_app.specs.Command.{command_of, verify_command, inspect_command};
+ghost use Rattle.pos_app.specs.Command.{command_of, verify_command, question_words, inspect_command};
 ghost use Rattle.pos_app.specs.Read.{Reads, IsPlain};
 
 use hex::FromHex;
@@ -15,6 +15,10 @@ use pos_tuple::{Challenge, Id, Size};
 pub enum Command<'a> {
     /// Judge a proof.
     Verify(Judged<'a>),
+    /// List the proofs that a plot file holds for a challenge.
+    Prove(Question<'a>),
+    /// List the qualities of these proofs.
+    Quality(Question<'a>),
     /// Show what the header of the plot file of this name says.
     Inspect(&'a str),
 }
@@ -28,12 +32,25 @@ pub struct Judged<'a> {
     pub proof: &'a str,
 }
 
+/// The name of a plot file, and the challenge that it is asked for.
+#[derive(Clone, Copy)]
+pub struct Question<'a> {
+    pub file: &'a str,
+    pub challenge: Challenge,
+}
+
 /// Reads the words of a command line, those after the program's name. None where they are no command.
 pub fn read_command(words: &[String]) -> Option<Command<'_>>
     ensures { Reads result (command_of (map string_bytes words.now)) }
 {
     match words.split_first() {
         Some((name, rest)) if name.as_str() == "verify" => read_verify(rest),
+        Some((name, rest)) if name.as_str() == "prove" => Some(Command::Prove(read_question(
+            rest,
+        )?)),
+        Some((name, rest)) if name.as_str() == "quality" => {
+            Some(Command::Quality(read_question(rest)?))
+        }
         Some((name, rest)) if name.as_str() == "inspect" => read_inspect(rest),
         _ => None,
     }
@@ -64,6 +81,25 @@ fn read_verify(words: &[String]) -> Option<Command<'_>>
         challenge: Challenge(challenge),
         proof,
     }))
+}
+
+// Reads the words behind `prove` and `quality`.
+fn read_question(words: &[String]) -> Option<Question<'_>>
+    ensures { option_map (λ question. (question.file.now, question.challenge.0)) result ≡ question_words (map string_bytes words.now) }
+{
+    if words.len() != 2 {
+        return None;
+    }
+    let Some(file) = read_file(words[0].as_str()) else {
+        return None;
+    };
+    let Some(challenge) = read_hash(words[1].as_str()) else {
+        return None;
+    };
+    Some(Question {
+        file,
+        challenge: Challenge(challenge),
+    })
 }
 
 // Reads the word behind `inspect`.

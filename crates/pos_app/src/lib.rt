@@ -2,7 +2,10 @@
 #![tactic(auto)]
 
 mod command;
+mod list_text;
 mod program;
+mod refusal;
+mod shown;
 mod text;
 
 pub use program::run;

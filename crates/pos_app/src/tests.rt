@@ -1,4 +1,5 @@
 mod inspect;
+mod lists;
 mod search;
 
 use crate::run;
@@ -91,7 +92,7 @@ fn refusals_name_the_first_failing_test(rt: HostRuntime) -> Result<(), Fail> {
 #[test]
 fn words_that_are_no_command_answer_the_usage_line(rt: HostRuntime) -> Result<(), Fail> {
     let alloc = rt.alloc();
-    let words: [&[&str]; 16] = [
+    let words: [&[&str]; 21] = [
         &[],
         &["verify"],
         &["plot", ID, "10", "p", "s"],
@@ -108,6 +109,11 @@ fn words_that_are_no_command_answer_the_usage_line(rt: HostRuntime) -> Result<()
         &["inspect", ""],
         &["inspect", "-p"],
         &["inspect", "p", "q"],
+        &["prove", "p"],
+        &["prove", "p", &ID[1..]],
+        &["prove", "-p", ID],
+        &["quality", "", ID],
+        &["quality", "p", ID, ID],
     ];
     for words in words {
         let (status, text) = answer(alloc, words, false)?;

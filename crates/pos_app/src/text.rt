@@ -2,7 +2,6 @@
 ghost use Rattle.std.specs.Prelude.{◌≡◌, ◌++◌, IfOk, OnOk, string_bytes};
 ghost use Rattle.pos_app.specs.Texts.{verdict_line, inspect_text, header_lines, id_line, size_line, table_line, length_line, absent_line, damage_line, field_name};
 
-use pos_bits::Memory;
 use pos_layout::{Damage, HeaderField};
 use pos_reader::Plot;
 use pos_tuple::Id;
@@ -13,17 +12,26 @@ use std::alloc::{AllocError, Global};
 pub const USAGE_LINE: &[u8; 30] = b"usage: pos_main COMMAND WORDS\n";
 
 /// The line of a verdict.
-pub fn verdict_line(alloc: Global, verdict: &Verdict) -> Result<String, Memory>
+pub fn verdict_line(alloc: Global, verdict: &Verdict) -> Result<String, AllocError>
     ensures { IfOk result (λ line. string_bytes line ≡ verdict_line verdict.now) }
 {
-    match line_of(alloc, verdict) {
-        Ok(line) => Ok(line),
-        Err(_) => Err(Memory),
+    match verdict {
+        Verdict::Accepted(quality) => {
+            let digits = hex::encode(alloc, &quality[..])?;
+            format!(in alloc; "accepted {digits}\n")
+        }
+        Verdict::WrongLength { want, found } => {
+            format!(in alloc; "refused length {want} {found}\n")
+        }
+        Verdict::NoMatch { level, pair } => format!(in alloc; "refused match {level} {pair}\n"),
+        Verdict::WrongChallenge { want, found } => {
+            format!(in alloc; "refused challenge {want} {found}\n")
+        }
     }
 }
 
 /// The lines of an open plot: its id, its size, the counts of its tables and the length of its file.
-pub fn inspect_text(alloc: Global, plot: &Plot) -> Result<String, Memory>
+pub fn inspect_text(alloc: Global, plot: &Plot) -> Result<String, AllocError>
     ensures { IfOk result (λ text. string_bytes text ≡ inspect_text plot.now.header) }
 {
     let counts = [
@@ -35,10 +43,7 @@ pub fn inspect_text(alloc: Global, plot: &Plot) -> Result<String, Memory>
         plot.count(6),
         plot.count(7),
     ];
-    match header_lines(alloc, &plot.id(), plot.size().k(), &counts, plot.length()) {
-        Ok(text) => Ok(text),
-        Err(_) => Err(Memory),
-    }
+    header_lines(alloc, &plot.id(), plot.size().k(), &counts, plot.length())
 }
 
 fn header_lines(
@@ -92,26 +97,14 @@ fn push_length(alloc: Global, text: &mut String, length: u64) -> Result<(), Allo
 pub const DISK_FAULT_LINE: &[u8; 11] = b"disk fault\n";
 
 /// The line of a name that no file has.
-pub fn absent_line(alloc: Global, name: &str) -> Result<String, Memory>
+pub fn absent_line(alloc: Global, name: &str) -> Result<String, AllocError>
     ensures { IfOk result (λ line. string_bytes line ≡ absent_line name.now) }
 {
-    match format!(in alloc; "absent {name}\n") {
-        Ok(line) => Ok(line),
-        Err(_) => Err(Memory),
-    }
+    format!(in alloc; "absent {name}\n")
 }
 
 /// The line of a damage.
-pub fn damage_line(alloc: Global, damage: &Damage) -> Result<String, Memory>
-    ensures { IfOk result (λ line. string_bytes line ≡ damage_line damage.now) }
-{
-    match damage_text(alloc, damage) {
-        Ok(line) => Ok(line),
-        Err(_) => Err(Memory),
-    }
-}
-
-fn damage_text(alloc: Global, damage: &Damage) -> Result<String, AllocError>
+pub fn damage_line(alloc: Global, damage: &Damage) -> Result<String, AllocError>
     ensures { IfOk result (λ line. string_bytes line ≡ damage_line damage.now) }
 {
     match damage {
@@ -138,23 +131,5 @@ fn field_name(field: &HeaderField) -> &'static str
         HeaderField::Size => "size",
         HeaderField::Zeros => "zeros",
         HeaderField::Counts => "counts",
-    }
-}
-
-fn line_of(alloc: Global, verdict: &Verdict) -> Result<String, AllocError>
-    ensures { IfOk result (λ line. string_bytes line ≡ verdict_line verdict.now) }
-{
-    match verdict {
-        Verdict::Accepted(quality) => {
-            let digits = hex::encode(alloc, &quality[..])?;
-            format!(in alloc; "accepted {digits}\n")
-        }
-        Verdict::WrongLength { want, found } => {
-            format!(in alloc; "refused length {want} {found}\n")
-        }
-        Verdict::NoMatch { level, pair } => format!(in alloc; "refused match {level} {pair}\n"),
-        Verdict::WrongChallenge { want, found } => {
-            format!(in alloc; "refused challenge {want} {found}\n")
-        }
     }
 }

@@ -19,7 +19,7 @@ fn begin_header(alloc: Global) -> Result<Vec<u8>, Fail> {
 }
 
 // A file of seven tables without numbers.
-fn empty_file(alloc: Global) -> Result<Vec<u8>, Fail> {
+pub fn empty_file(alloc: Global) -> Result<Vec<u8>, Fail> {
     let mut bytes = begin_header(alloc)?;
     for _ in 0..7 {
         bytes.extend_from_slice(&0u64.to_be_bytes())?;
@@ -41,7 +41,7 @@ const TABLES: [(u32, u64, u64); 7] = [
 ];
 
 // A file of seven tables with one park of four zero bytes each.
-fn toy_file(alloc: Global) -> Result<Vec<u8>, Fail> {
+pub fn toy_file(alloc: Global) -> Result<Vec<u8>, Fail> {
     let mut bytes = begin_header(alloc)?;
     for (count, _, directory) in TABLES {
         bytes.extend_from_slice(&u64::from(count).to_be_bytes())?;
@@ -59,20 +59,21 @@ fn toy_file(alloc: Global) -> Result<Vec<u8>, Fail> {
     Ok(bytes)
 }
 
-// The status and the text of `inspect` of a name, over a disk with one file, which fails at the calls of these numbers.
-fn inspect(
+// The status and the text of a run, over a disk with one file, which fails at the calls of these numbers.
+pub fn answer_over(
     alloc: Global,
-    name: &str,
+    words: &[&str],
     bytes: &[u8],
     failing: &[u64],
 ) -> Result<(u8, Vec<u8>), Fail> {
-    let mut words = Vec::new(alloc);
-    words.push(String::from_str(alloc, "inspect")?)?;
-    words.push(String::from_str(alloc, name)?)?;
+    let mut owned = Vec::new(alloc);
+    for word in words {
+        owned.push(String::from_str(alloc, word)?)?;
+    }
     let mut disk = MemoryDisk::new(alloc, failing.to_vec(alloc)?);
     disk.add("toy", bytes)?;
     let mut sink = MemorySink::new(alloc, Vec::new(alloc), 4096)?;
-    let status = run(alloc, words.as_slice(), &mut disk, &mut sink);
+    let status = run(alloc, owned.as_slice(), &mut disk, &mut sink);
     Ok((status, sink.text().to_vec(alloc)?))
 }
 
@@ -81,20 +82,20 @@ fn small_files_show_their_headers(rt: HostRuntime) -> Result<(), Fail> {
     let alloc = rt.alloc();
     let toy = toy_file(alloc)?;
     assert_eq!(rt; toy.len(), 428);
-    let (status, text) = inspect(alloc, "toy", toy.as_slice(), &[])?;
+    let (status, text) = answer_over(alloc, &["inspect", "toy"], toy.as_slice(), &[])?;
     let wanted =
         b"id 0000000000000000000000000000000000000000000000000000000000000000\nk 10\ntable 1 3\ntable 2 3\ntable 3 3\ntable 4 3\ntable 5 3\ntable 6 1\ntable 7 1\nlength 428\n";
     assert_eq!(rt; text.as_slice(), wanted.as_slice());
     assert_eq!(rt; status, 0);
     let empty = empty_file(alloc)?;
-    let (status, text) = inspect(alloc, "toy", empty.as_slice(), &[])?;
+    let (status, text) = answer_over(alloc, &["inspect", "toy"], empty.as_slice(), &[])?;
     let wanted =
         b"id 0000000000000000000000000000000000000000000000000000000000000000\nk 10\ntable 1 0\ntable 2 0\ntable 3 0\ntable 4 0\ntable 5 0\ntable 6 0\ntable 7 0\nlength 176\n";
     assert_eq!(rt; text.as_slice(), wanted.as_slice());
     assert_eq!(rt; status, 0);
     let mut largest = empty_file(alloc)?;
     *largest.get_mut(48).ok_or("no size")? = 32;
-    let (status, text) = inspect(alloc, "toy", largest.as_slice(), &[])?;
+    let (status, text) = answer_over(alloc, &["inspect", "toy"], largest.as_slice(), &[])?;
     let wanted =
         b"id 0000000000000000000000000000000000000000000000000000000000000000\nk 32\ntable 1 0\ntable 2 0\ntable 3 0\ntable 4 0\ntable 5 0\ntable 6 0\ntable 7 0\nlength 176\n";
     assert_eq!(rt; text.as_slice(), wanted.as_slice());
@@ -122,7 +123,7 @@ fn changed_bytes_show_the_first_damage(rt: HostRuntime) -> Result<(), Fail> {
     for (at, byte, wanted) in rows {
         let mut bytes = toy_file(alloc)?;
         *bytes.get_mut(at).ok_or("no such place")? = byte;
-        let (status, text) = inspect(alloc, "toy", bytes.as_slice(), &[])?;
+        let (status, text) = answer_over(alloc, &["inspect", "toy"], bytes.as_slice(), &[])?;
         assert_eq!(rt; text.as_slice(), wanted.as_bytes());
         assert_eq!(rt; status, 4);
     }
@@ -142,7 +143,7 @@ fn short_files_are_not_open(rt: HostRuntime) -> Result<(), Fail> {
     ];
     for (length, wanted) in rows {
         let front = toy.get(..length).ok_or("too short")?;
-        let (status, text) = inspect(alloc, "toy", front, &[])?;
+        let (status, text) = answer_over(alloc, &["inspect", "toy"], front, &[])?;
         assert_eq!(rt; text.as_slice(), wanted.as_bytes());
         assert_eq!(rt; status, 4);
     }
@@ -153,12 +154,12 @@ fn short_files_are_not_open(rt: HostRuntime) -> Result<(), Fail> {
 fn no_file_and_no_disk_have_their_lines(rt: HostRuntime) -> Result<(), Fail> {
     let alloc = rt.alloc();
     let toy = toy_file(alloc)?;
-    let (status, text) = inspect(alloc, "nothing", toy.as_slice(), &[])?;
+    let (status, text) = answer_over(alloc, &["inspect", "nothing"], toy.as_slice(), &[])?;
     assert_eq!(rt; text.as_slice(), b"absent nothing\n".as_slice());
     assert_eq!(rt; status, 5);
     // the first call opens, the second reads
     for call in [0, 1] {
-        let (status, text) = inspect(alloc, "toy", toy.as_slice(), &[call])?;
+        let (status, text) = answer_over(alloc, &["inspect", "toy"], toy.as_slice(), &[call])?;
         assert_eq!(rt; text.as_slice(), b"disk fault\n".as_slice());
         assert_eq!(rt; status, 3);
     }

@@ -1,5 +1,5 @@
 -- More bytes than any size's proof has are no proof.
-use Rattle.std.proofs.Common.{◌≡◌, ◌≢◌, ◌*◌, length, arith}
+use Rattle.std.proofs.Common.{◌≢◌, ◌*◌, length, arith}
 use Rattle.pos_app.specs.Read.{digits_bytes}
 use Rattle.pos_app.proofs.DigitLemmas.{length_digits}
 use Rattle.pos_verify.proofs.VerdictLemmas.{no_proof-length}

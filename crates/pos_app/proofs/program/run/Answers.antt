@@ -1,19 +1,74 @@
-use Rattle.std.specs.Prelude.{map, string_bytes}
-use Rattle.pos_app.specs.Command.{Verify, Inspect, command_of}
+-- The command that was obeyed is the one that the words are, and the clauses follow from what it says.
+use Rattle.std.proofs.Common.{◌≡◌}
+use Rattle.std.specs.Prelude.{map, string_bytes, Some}
+use Rattle.pos_app.specs.Command.{Command, Verify, Prove, Quality, Inspect, command_of}
+use Rattle.pos_app.specs.Obeyed.{SaysAnswer}
+use Rattle.pos_app.specs.Read.{meant}
 use Rattle.pos_app.proofs.AnswerLemmas.{says_answer-same, tells_answer-same}
+use Rattle.pos_app.proofs.ListLemmas.{any_file, names_damage, no_false_proof, reads_for_proofs, reads_for_qualities}
+use Rattle.pos_app.proofs.PlotLemmas.{says_of_whole_proofs, says_of_whole_qualities, says_the_proofs, says_the_qualities}
+use Rattle.pos_app.proofs.program.run.Given.{Over}
 use Rattle.pos_app.proofs.program.run.Goals as goal
+use Rattle.pos_app.proofs.program.run.Goals.{After-obey}
+
+obeyed : (g : Over) (c : After-obey g) → command_of (map string_bytes c.args.words.now) ≡ Some (meant c.in-Some.command)
+obeyed g c = (rw c.in-Some.is at c.read_command.ensures).1
+
+says : (g : Over) (c : After-obey g) (m : Command) → command_of (map string_bytes c.args.words.now) ≡ Some m
+    → SaysAnswer m (g.D.Disk.view c.args.disk.now) (g.D.Disk.view c.obey.new.disk) c.obey.result
+    (g.S.Sink.heard c.args.out.now) (g.S.Sink.heard c.obey.new.out)
+says g c m e =
+    says_answer-same (meant c.in-Some.command) m (command_of (map string_bytes c.args.words.now)) (g.D.Disk.view c.args.disk.now) (g.D.Disk.view c.obey.new.disk)
+    c.obey.result (g.S.Sink.heard c.args.out.now) (g.S.Sink.heard c.obey.new.out) (obeyed g c) e c.obey.ensures.answer
 
 pub returns-in-Some-clause-verify : goal.returns-in-Some-clause-verify
-returns-in-Some-clause-verify g c id challenge proof k e =
-    let held = (rw c.in-Some.is at c.read_command.ensures).1 in
-    says_answer-same _ (Verify id k challenge proof) (command_of (map string_bytes c.args.words.now)) _ _ c.obey.result _ _ held e c.obey.ensures.answer
+returns-in-Some-clause-verify g c id challenge proof k e = says g c (Verify id k challenge proof) e
 
 pub returns-in-Some-clause-proofs : goal.returns-in-Some-clause-proofs
 returns-in-Some-clause-proofs g c id challenge proof k e =
-    let held = (rw c.in-Some.is at c.read_command.ensures).1 in
-    tells_answer-same _ (Verify id k challenge proof) (command_of (map string_bytes c.args.words.now)) c.obey.result held e c.obey.ensures.proofs
+    tells_answer-same (meant c.in-Some.command) (Verify id k challenge proof) (command_of (map string_bytes c.args.words.now)) c.obey.result (obeyed g c) e c.obey.ensures.proofs
 
 pub returns-in-Some-clause-inspect : goal.returns-in-Some-clause-inspect
-returns-in-Some-clause-inspect g c file e =
-    let held = (rw c.in-Some.is at c.read_command.ensures).1 in
-    says_answer-same _ (Inspect file) (command_of (map string_bytes c.args.words.now)) _ _ c.obey.result _ _ held e c.obey.ensures.answer
+returns-in-Some-clause-inspect g c file e = says g c (Inspect file) e
+
+pub returns-in-Some-clause-prove : goal.returns-in-Some-clause-prove
+returns-in-Some-clause-prove g c file challenge e = says g c (Prove file challenge) e
+
+pub returns-in-Some-clause-quality : goal.returns-in-Some-clause-quality
+returns-in-Some-clause-quality g c file challenge e = says g c (Quality file challenge) e
+
+pub returns-in-Some-clause-lists : goal.returns-in-Some-clause-lists
+returns-in-Some-clause-lists g c file challenge id k e held =
+    says_the_proofs id k file challenge _ _ c.obey.result _ _ held (says g c (Prove file challenge) e)
+
+pub returns-in-Some-clause-rates : goal.returns-in-Some-clause-rates
+returns-in-Some-clause-rates g c file challenge id k e held =
+    says_the_qualities id k file challenge _ _ c.obey.result _ _ held (says g c (Quality file challenge) e)
+
+pub returns-in-Some-clause-whole_proofs : goal.returns-in-Some-clause-whole_proofs
+returns-in-Some-clause-whole_proofs g c file challenge e held =
+    says_of_whole_proofs file challenge _ _ c.obey.result _ _ held (says g c (Prove file challenge) e)
+
+pub returns-in-Some-clause-whole_qualities : goal.returns-in-Some-clause-whole_qualities
+returns-in-Some-clause-whole_qualities g c file challenge e held =
+    says_of_whole_qualities file challenge _ _ c.obey.result _ _ held (says g c (Quality file challenge) e)
+
+pub returns-in-Some-clause-no_false_proof : goal.returns-in-Some-clause-no_false_proof
+returns-in-Some-clause-no_false_proof g c file challenge e =
+    no_false_proof file challenge _ _ c.obey.result _ _ (says g c (Prove file challenge) e)
+
+pub returns-in-Some-clause-proof_reads : goal.returns-in-Some-clause-proof_reads
+returns-in-Some-clause-proof_reads g c file challenge e done =
+    reads_for_proofs file challenge _ _ c.obey.result _ _ done (says g c (Prove file challenge) e)
+
+pub returns-in-Some-clause-quality_reads : goal.returns-in-Some-clause-quality_reads
+returns-in-Some-clause-quality_reads g c file challenge e done =
+    reads_for_qualities file challenge _ _ c.obey.result _ _ done (says g c (Quality file challenge) e)
+
+pub returns-in-Some-clause-any_file : goal.returns-in-Some-clause-any_file
+returns-in-Some-clause-any_file g c file asks tells =
+    any_file asks.0 file _ _ c.obey.result _ _ tells asks.2 (says g c asks.0 asks.1)
+
+pub returns-in-Some-clause-damages : goal.returns-in-Some-clause-damages
+returns-in-Some-clause-damages g c file challenge asks tells is =
+    names_damage asks.0 file challenge _ _ c.obey.result _ _ tells is asks.2 asks.3 (says g c asks.0 asks.1)
