@@ -1,0 +1,13 @@
+mod EntryLemmas
+mod ListLemmas
+mod TableLemmas
+mod FirstLemmas
+mod PairsLemmas
+mod BucketLemmas
+mod ReadyLemmas
+mod GatherLemmas
+mod TakenLemmas
+mod StoreLemmas
+mod WorkLemmas
+mod WayLemmas
+mod GatheringLemmas

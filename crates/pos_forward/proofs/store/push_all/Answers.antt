@@ -1,0 +1,17 @@
+use Rattle.std.proofs.Common.{◌∙◌}
+use Rattle.pos_forward.proofs.StoreLemmas.{more_step, writes_then}
+use Rattle.pos_forward.proofs.store.push_all.Goals as goal
+
+pub returns-in_err-push_both-clause-writes : goal.returns-in_err-push_both-clause-writes
+returns-in_err-push_both-clause-writes g c = writes_then _ _ _ _ _ _ _ _ _ c.loop-i.invariant.writes c.push_both.ensures.writes
+
+pub loop-i-preserved : goal.loop-i-preserved
+loop-i-preserved g c =
+    let before = c.loop-i.invariant in
+    let one = c.in_ok-push_both.ensures in
+    record {
+      writes = writes_then _ _ _ _ _ _ _ _ _ before.writes one.writes;
+      more = more_step g.R.Record.read g.R.Record.bit_count g.S.Record.read g.S.Record.bit_count g.R.MadeOf.made_of g.S.MadeOf.made_of c.args.rows.now c.loop-i.i c.index-rows-i.result c.made_of.result c.made_of-in-loop-i.result
+          _ _ _ _ _ _ _ _ _ c.loop-i-test.true c.index-rows-i.is c.made_of.ensures c.made_of-in-loop-i.ensures before.more one.more;
+      quiet = one.quiet ∙ before.quiet;
+    }
