@@ -1,0 +1,3 @@
+pub mod KeptTables
+pub mod Marking
+pub mod Passes
