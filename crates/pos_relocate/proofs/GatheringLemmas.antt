@@ -1,0 +1,262 @@
+-- Work that only reads, and the tables through it.
+use Rattle.std.proofs.Common.{◌≡◌, ◌≢◌, ℕ, suc, ◌+◌, ◌-◌, ◌*◌, ◌/◌, ◌^◌, ◌<◌, ◌≤◌, Bool, true, false, List, [], ◌∷◌, ◌++◌, length, map, get_or, Option, Some, Result, Ok, Err, refl, sym, ap, ◌∙◌, subst, inl, inr, arith, get_or-set_same, get_or-set_other}
+use Rattle.std.specs.Prelude.{IsErrOf, slice_get, slice_set, slice_index, AllPairs}
+use Rattle.std.proofs.lemmas.Bool.{cases_eq, cases_lt}
+use Rattle.std.proofs.lemmas.List.{get_or_default, map-append}
+use Rattle.std.proofs.Math.ListN.{get_or-append, length-set}
+use Rattle.std.proofs.Math.Seq.{get_or-append_seam}
+use Rattle.std.proofs.Common.{length-append}
+use Rattle.pos_edge.specs.declared.scratch.ScratchDamage.{ScratchDamage}
+use Rattle.pos_edge.specs.declared.scratch.WorkFault.{WorkFault}
+use Rattle.pos_edge.specs.declared.scratch.WorkFault.TheVariants.{DiskFailed, Exists, Memory, Scratch}
+use Rattle.pos_edge.specs.View.{View}
+use Rattle.pos_edge.specs.Faults.{Rose}
+use Rattle.pos_edge.specs.Frame.{ReadsOnly, SameFaults, Nothing}
+use Rattle.pos_edge.proofs.FaultLemmas.{Rose-since, faults_then}
+use Rattle.pos_edge.proofs.Frames.{frame_none, frame_then}
+use Rattle.pos_lists.specs.TableLists.{TableLists}
+use Rattle.pos_lists.specs.Rank.{first_in, second_in}
+use Rattle.pos_lists.specs.Numbering.{AreGathered}
+use Rattle.pos_lists.proofs.NumberingLemmas.{a_place_is_gathered, a_place_is_passed_over}
+use Rattle.pos_marks.proofs.MarkLemmas.{marked_reads}
+use Rattle.pos_runs.specs.Lists.{IsListRead}
+use Rattle.pos_runs.specs.Pages.{ListPages}
+use Rattle.pos_runs.specs.Runs.{TablesState, TablesStand, pages_at, no_pages}
+use Rattle.pos_runs.proofs.TablesLemmas.{tables-read}
+use Rattle.pos_relocate.specs.declared.chosen.Chosen.{Chosen}
+use Rattle.pos_relocate.specs.declared.chosen.Chosen.TheVariants.{Each, Those}
+use Rattle.pos_relocate.specs.Passes.{AreListed}
+use Rattle.pos_relocate.specs.Choosing.{Chooses}
+use Rattle.pos_relocate.specs.Gathering.{CanPoint, IsPointing, SameTables}
+use Rattle.pos_relocate.proofs.PassLemmas.{ok_no_fault}
+
+-- ---- reads one after another
+
+pub reads_none : (v : View) → ReadsOnly v v
+reads_none v = record { kept = frame_none Nothing Nothing v; ids = record { live = λ f k. refl; name = λ f k. refl } }
+
+pub reads_then : (a b c : View) → ReadsOnly a b → ReadsOnly b c → ReadsOnly a c
+reads_then a b c p q = record {
+  kept = frame_then Nothing Nothing Nothing Nothing Nothing Nothing a b c (λ n x. x) (λ n x. x) (λ f l x. x) (λ f l x. x) p.kept q.kept;
+  ids = record { live = λ f k. q.ids.live f k ∙ p.ids.live f k; name = λ f k. q.ids.name f k ∙ p.ids.name f k };
+}
+
+-- more of it after work that went well
+pub gathering_then : {X : Type 0} (r : Result X WorkFault) (a b c : View) → ReadsOnly a b → SameFaults a b → IsPointing r b c → IsPointing r a c
+gathering_then r a b c first same p = record {
+  only = reads_then a b c first p.only;
+  failed = λ is. Rose-since a.faults b.faults c.faults first.kept.faults (p.failed is);
+  quiet = faults_then DiskFailed r a b c same p.quiet;
+  makes_none = p.makes_none;
+}
+
+pub gathering_err : (X Y : Type 0) (e : WorkFault) (a b : View) → IsPointing {X = X} (Err e) a b → IsPointing {X = Y} (Err e) a b
+gathering_err X Y e a b p = record {
+  only = p.only;
+  failed = λ is. let same : e ≡ DiskFailed = cc in p.failed (ap (λ f. Err f) same);
+  quiet = p.quiet;
+  makes_none = λ n is. let same : e ≡ Exists n = cc in p.makes_none n (ap (λ f. Err f) same);
+}
+
+-- a fault that was passed on
+pub gathering_exit : {X Y : Type 0} (r : Result X WorkFault) (y e : WorkFault) (a b : View) → r ≡ Err y → y ≡ e → IsPointing {X = Y} (Err e) a b → IsPointing r a b
+gathering_exit {X} {Y} r y e a b is same p = subst (λ (s : Result X WorkFault). IsPointing s a b) (sym (is ∙ ap (λ f. Err f) same)) (gathering_err Y X e a b p)
+
+-- work that went well, whatever its value
+pub gathering_done : {X : Type 0} (x : X) (a b : View) → ReadsOnly a b → SameFaults a b → IsPointing (Ok x) a b
+gathering_done x a b only same = record {
+  only = only;
+  failed = λ is. absurd (ok_no_fault x DiskFailed is);
+  quiet = same;
+  makes_none = λ n is. ok_no_fault x (Exists n) is;
+}
+
+-- damage, and want of memory
+pub gathering_damage : (X : Type 0) (d : ScratchDamage) (a b : View) → ReadsOnly a b → SameFaults a b → IsPointing {X = X} (Err (Scratch d)) a b
+gathering_damage X d a b only same = record {
+  only = only;
+  failed = λ is. absurd (let t : true ≡ true = refl in cc);
+  quiet = λ other. same;
+  makes_none = λ n is. cc;
+}
+
+pub gathering_memory : (X : Type 0) (a b : View) → ReadsOnly a b → SameFaults a b → IsPointing {X = X} (Err Memory) a b
+gathering_memory X a b only same = record {
+  only = only;
+  failed = λ is. absurd (let t : true ≡ true = refl in cc);
+  quiet = λ other. same;
+  makes_none = λ n is. cc;
+}
+
+-- the disk failed in a call that only reads
+pub gathering_failed : (X : Type 0) (a b : View) → ReadsOnly a b → Rose a.faults b.faults → IsPointing {X = X} (Err DiskFailed) a b
+gathering_failed X a b only rose = record {
+  only = only;
+  failed = λ is. rose;
+  quiet = λ other. absurd (other refl);
+  makes_none = λ n is. cc;
+}
+
+-- want of memory that was passed on
+pub gathering_spent : {X : Type 0} (r : Result X WorkFault) (y e : WorkFault) (a b : View) → r ≡ Err y → y ≡ e → e ≡ Memory → ReadsOnly a b → SameFaults a b → IsPointing r a b
+gathering_spent {X} r y e a b is same spent only faults =
+    subst (λ (s : Result X WorkFault). IsPointing s a b) (sym (is ∙ ap (λ f. Err f) (same ∙ spent))) (gathering_memory X a b only faults)
+
+-- the disk's failure that was passed on
+pub gathering_lost : {X : Type 0} (r : Result X WorkFault) (y e : WorkFault) (a b c : View) → r ≡ Err y → y ≡ e → e ≡ DiskFailed → ReadsOnly a b → ReadsOnly b c → Rose b.faults c.faults → IsPointing r a c
+gathering_lost {X} r y e a b c is same failed first only rose =
+    subst (λ (s : Result X WorkFault). IsPointing s a c) (sym (is ∙ ap (λ f. Err f) (same ∙ failed)))
+    (gathering_failed X a c (reads_then a b c first only) (Rose-since a.faults b.faults c.faults first.kept.faults rose))
+
+-- neither is damage
+pub spent_no_damage : {X : Type 0} (r : Result X WorkFault) (y e : WorkFault) (d : ScratchDamage) → r ≡ Err y → y ≡ e → e ≡ Memory → IsErrOf r (Scratch d) → ⊥
+spent_no_damage r y e d is same spent damaged = cc
+
+pub lost_no_damage : {X : Type 0} (r : Result X WorkFault) (y e : WorkFault) (d : ScratchDamage) → r ≡ Err y → y ≡ e → e ≡ DiskFailed → IsErrOf r (Scratch d) → ⊥
+lost_no_damage r y e d is same failed damaged = cc
+
+-- ---- the tables
+
+pub same_none : (k : ℕ) (t : TablesState) (v : View) → SameTables k t t v v
+same_none k t v = record { stand = λ ts h. h; counts = λ n. refl; files = λ n. refl; numbers = λ n. refl }
+
+pub same_then : (k : ℕ) (s t u : TablesState) (a b c : View) → SameTables k s t a b → SameTables k t u b c → SameTables k s u a c
+same_then k s t u a b c p q = record {
+  stand = λ ts h. q.stand ts (p.stand ts h);
+  counts = λ n. q.counts n ∙ p.counts n;
+  files = λ n. q.files n ∙ p.files n;
+  numbers = λ n. q.numbers n ∙ p.numbers n;
+}
+
+-- while other files are read
+pub same_beside : (k : ℕ) (t : TablesState) (a b : View) → ReadsOnly a b → SameTables k t t a b
+same_beside k t a b only = record { stand = λ ts h. tables-read k t ts a b only h; counts = λ n. refl; files = λ n. refl; numbers = λ n. refl }
+
+-- what holds of a list that was put in the place of another, and of the others
+at_list : {Y : Type 0} (f : ListPages → Y) (t : TablesState) (s : ListPages) (n m : ℕ) → n < length t → f s ≡ f (pages_at t n) → f (pages_at (slice_set t n s) m) ≡ f (pages_at t m)
+at_list f t s n m inside same = elim (cases_eq m n) [
+  | inl is ↦ ap (λ j. f (pages_at (slice_set t n s) j)) is ∙ ap f (get_or-set_same t n s no_pages inside) ∙ same ∙ sym (ap (λ j. f (pages_at t j)) is)
+  | inr other ↦ ap f (get_or-set_other t n m s no_pages other)
+]
+
+-- after one of the lists was read
+pub same_read : (k : ℕ) (t new : TablesState) (n : ℕ) (a b : View) → n < length t → new ≡ slice_set t n (pages_at new n) → IsListRead (pages_at t n) (pages_at new n) a b
+    → ((ts : TableLists) → TablesStand k t ts a → TablesStand k new ts b) → SameTables k t new a b
+same_read k t new n a b inside is read stand =
+    let s = pages_at new n in record {
+      stand = stand;
+      counts = λ m. ap (λ (x : TablesState). (pages_at x m).count) is ∙ at_list (λ x. x.count) t s n m inside read.count;
+      files = λ m. ap (λ (x : TablesState). (pages_at x m).file) is ∙ at_list (λ x. x.file) t s n m inside read.same.file;
+      numbers = λ m. ap (λ (x : TablesState). (pages_at x m).number) is ∙ at_list (λ x. x.number) t s n m inside read.same.number;
+    }
+
+-- entries get points as before while other files are read
+pub can_beside : (k t limit bound : ℕ) (below : List ℕ) (tables : TablesState) (a b : View) → ReadsOnly a b → CanPoint k t limit bound below tables a → CanPoint k t limit bound below tables b
+can_beside k t limit bound below tables a b only h = record {
+  size = h.size;
+  first = h.first;
+  last = h.last;
+  stands = (h.stands.0, tables-read k tables h.stands.0 a b only h.stands.1);
+  below_limit = h.below_limit;
+  limited = h.limited;
+  exact = h.exact;
+}
+
+-- and in the same tables
+pub can_same : (k t limit bound : ℕ) (below : List ℕ) (before after : TablesState) (a b : View) → SameTables k before after a b → CanPoint k t limit bound below before a → CanPoint k t limit bound below after b
+can_same k t limit bound below before after a b same h = record {
+  size = h.size;
+  first = h.first;
+  last = h.last;
+  stands = (h.stands.0, same.stand h.stands.0 h.stands.1);
+  below_limit = h.below_limit;
+  limited = h.limited;
+  exact = h.exact;
+}
+
+-- ---- the marks
+
+-- which entries are numbered is the same while other files are read
+pub chooses_beside : (c : Chosen) (n : ℕ) (p : ℕ → Bool) (a b : View) → ReadsOnly a b → Chooses c n p a → Chooses c n p b
+chooses_beside Each n p a b only h = h
+chooses_beside (Those m) n p a b only h = (marked_reads m p a b only h.0, h.1, h.2)
+
+-- ---- entries
+
+-- a list of pairs with one more at the end
+module _ (xs : List (ℕ × ℕ)) (y : ℕ × ℕ) where
+  grown : length (xs ++ y ∷ []) ≡ suc (length xs)
+  grown = let e = length-append xs (y ∷ []) in omega (arith, e)
+
+  at_old : (s : ℕ) (d : ℕ × ℕ) → s < length xs → get_or (xs ++ y ∷ []) s d ≡ get_or xs s d
+  at_old s d l = get_or-append xs (y ∷ []) d s l
+
+  at_last : (s : ℕ) (d : ℕ × ℕ) → s ≡ length xs → get_or (xs ++ y ∷ []) s d ≡ y
+  at_last s d e = ap (λ n. get_or (xs ++ y ∷ []) n d) e ∙ get_or-append_seam xs y [] d
+
+pub listed_none : (bound : ℕ) → AreListed 0 bound []
+listed_none bound = record {
+  rise = λ i j d l h. absurd (omega arith);
+  below = λ s l. absurd (omega arith);
+  small = λ s l. absurd (omega arith);
+}
+
+pub listed_passed : (high bound : ℕ) (xs : List (ℕ × ℕ)) → AreListed high bound xs → AreListed (high + 1) bound xs
+listed_passed high bound xs h = record {
+  rise = h.rise;
+  below = λ s l. let b = h.below s l in omega arith;
+  small = h.small;
+}
+
+pub listed_more : (high bound : ℕ) (xs : List (ℕ × ℕ)) (y : ℕ × ℕ) → y.1 ≡ high → y.0 < bound → AreListed high bound xs → AreListed (high + 1) bound (xs ++ y ∷ [])
+listed_more high bound xs y place small h =
+    let len = grown xs y in record {
+      rise = λ i j d l m. elim (cases_lt j (length xs)) [
+        | inl early ↦
+            let a = ap (λ (e : ℕ × ℕ). e.1) (at_old xs y i d (omega arith)) in
+            let b = ap (λ (e : ℕ × ℕ). e.1) (at_old xs y j d early) in
+            let o = h.rise i j d l early in
+            omega arith
+        | inr late ↦
+            let a = ap (λ (e : ℕ × ℕ). e.1) (at_old xs y i d (omega arith)) in
+            let b = ap (λ (e : ℕ × ℕ). e.1) (at_last xs y j d (omega arith)) in
+            let c = ap (λ (e : ℕ × ℕ). e.1) (get_or_default xs i d (0, 0) (omega arith)) in
+            let o = h.below i (omega arith) in
+            omega arith
+      ];
+      below = λ s l. elim (cases_lt s (length xs)) [
+        | inl early ↦ let a = ap (λ (e : ℕ × ℕ). e.1) (at_old xs y s (0, 0) early) in let b = h.below s early in omega arith
+        | inr late ↦ let a = ap (λ (e : ℕ × ℕ). e.1) (at_last xs y s (0, 0) (omega arith)) in omega arith
+      ];
+      small = λ s l. elim (cases_lt s (length xs)) [
+        | inl early ↦ let a = ap (λ (e : ℕ × ℕ). e.0) (at_old xs y s (0, 0) early) in let b = h.small s early in omega arith
+        | inr late ↦ let a = ap (λ (e : ℕ × ℕ). e.0) (at_last xs y s (0, 0) (omega arith)) in omega arith
+      ];
+    }
+
+pub gathered_passed : (p : ℕ → Bool) (point : ℕ → ℕ) (i : ℕ) (xs : List (ℕ × ℕ)) → p i ≡ false → AreGathered p point i xs → AreGathered p point (i + 1) xs
+gathered_passed p point i xs passed h =
+    let e : suc i ≡ i + 1 = omega arith in
+    subst (λ (n : ℕ). AreGathered p point n xs) e (a_place_is_passed_over p point i xs passed h)
+
+pair_is : (y : ℕ × ℕ) (a b : ℕ) → a ≡ y.0 → b ≡ y.1 → (a, b) ≡ y
+pair_is y a b p q = ap (λ (n : ℕ). let z : ℕ × ℕ = (n, b) in z) p ∙ ap (λ (n : ℕ). let z : ℕ × ℕ = (y.0, n) in z) q
+
+pub gathered_more : (p : ℕ → Bool) (point : ℕ → ℕ) (i : ℕ) (xs : List (ℕ × ℕ)) (y : ℕ × ℕ) → p i ≡ true → y.0 ≡ point i → y.1 ≡ i → AreGathered p point i xs → AreGathered p point (i + 1) (xs ++ y ∷ [])
+gathered_more p point i xs y chosen is_point is_place h =
+    let e : suc i ≡ i + 1 = omega arith in
+    let same : (point i, i) ≡ y = pair_is y (point i) i (sym is_point) (sym is_place) in
+    subst (λ (n : ℕ). AreGathered p point n (xs ++ y ∷ [])) e (subst (λ (z : ℕ × ℕ). AreGathered p point (suc i) (xs ++ z ∷ [])) same (a_place_is_gathered p point i xs chosen h))
+
+-- the same of a vector that an entry was pushed on
+pub listed_pushed : {X : Type 0} (pair : X → ℕ × ℕ) (i bound : ℕ) (olds news : List X) (entry : X) → news ≡ olds ++ entry ∷ [] → (pair entry).1 ≡ i → (pair entry).0 < bound
+    → AreListed i bound (map pair olds) → AreListed (i + 1) bound (map pair news)
+listed_pushed pair i bound olds news entry is place small h =
+    let e : map pair news ≡ map pair olds ++ pair entry ∷ [] = ap (map pair) is ∙ map-append pair olds (entry ∷ []) in
+    subst (λ (xs : List (ℕ × ℕ)). AreListed (i + 1) bound xs) (sym e) (listed_more i bound (map pair olds) (pair entry) place small h)
+
+pub gathered_pushed : {X : Type 0} (pair : X → ℕ × ℕ) (p : ℕ → Bool) (point : ℕ → ℕ) (i : ℕ) (olds news : List X) (entry : X) → news ≡ olds ++ entry ∷ [] → p i ≡ true → (pair entry).0 ≡ point i → (pair entry).1 ≡ i
+    → AreGathered p point i (map pair olds) → AreGathered p point (i + 1) (map pair news)
+gathered_pushed pair p point i olds news entry is chosen is_point place h =
+    let e : map pair news ≡ map pair olds ++ pair entry ∷ [] = ap (map pair) is ∙ map-append pair olds (entry ∷ []) in
+    subst (λ (xs : List (ℕ × ℕ)). AreGathered p point (i + 1) xs) (sym e) (gathered_more p point i (map pair olds) (pair entry) chosen is_point place h)

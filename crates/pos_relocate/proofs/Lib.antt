@@ -1,0 +1,11 @@
+pub mod PassLemmas
+pub mod EntryLemmas
+pub mod AddingLemmas
+pub mod GatheringLemmas
+pub mod PointingLemmas
+pub mod ValuesLemmas
+pub mod GatheredLemmas
+pub mod LastLemmas
+pub mod SortedLemmas
+pub mod LastTableLemmas
+pub mod LevelLemmas

@@ -1,0 +1,31 @@
+//! Relocation: the used entries of a run's tables get new places by the order of their line points, and the numbers of
+//! the plot file's seven tables are written from them.
+//!
+//! A pass over one table gathers its used entries with their points, sorts them by point with one call of the library's
+//! sort, adds the points to the writer, and keeps the new places by old place in memory for the table above. So each list
+//! on pages is read once and in order, and no scratch file is made.
+//! Source: the Construction document, "compression" and "sort on line points".
+#![tactic(auto)]
+
+ghost use Rattle.std.specs.Prelude.{◌≡◌, ◌++◌, ◌∷◌, [], IfErr, OnOk};
+
+mod chosen;
+mod gathering;
+mod lasts;
+mod levels;
+mod numbering;
+mod pointed;
+
+use pos_edge::WorkFault;
+
+// Appends an item; the only error is want of memory.
+#[inline(always)]
+fn push<T: Copy>(items: &mut Vec<T>, item: T) -> Result<(), WorkFault>
+    ensures ok { OnOk result (items.new.items ≡ items.old.items ++ item ∷ []) }
+    ensures fault { IfErr result (λ fault. fault ≡ WorkFault.Memory) }
+{
+    if items.push(item).is_err() {
+        return Err(WorkFault::Memory);
+    }
+    Ok(())
+}
