@@ -1,14 +1,32 @@
+ghost use Rattle.pos_reader.specs.Plots.{IsOpen};
+
 use crate::{
     ListRefusal, a_plots_proofs_are_listed, a_plots_span_is_shown, a_whole_files_places_are_shown,
     damages_are_of_the_file, damages_have_their_causes, find, list_proofs, list_qualities,
     proof_at, quality_at,
 };
-use pos_edge::MemoryDisk;
+use pos_edge::{Disk, Memory, MemoryDisk};
 use pos_layout::Damage;
 use pos_reader::{Plot, ReadRefusal};
 use pos_tuple::Challenge;
 use std::alloc::{AllocError, Global};
+use std::process::Abort;
 use std::test::Fail;
+
+/// Two numbers of eight bytes each.
+fn push_two(bytes: &mut Vec<u8>, first: u64, second: u64) -> Result<(), AllocError> {
+    bytes.extend_from_slice(&first.to_be_bytes())?;
+    bytes.extend_from_slice(&second.to_be_bytes())
+}
+
+/// A park of four zeros at this place, and the entry of it.
+fn push_park(bytes: &mut Vec<u8>, offset: u64, count: u8) -> Result<(), AllocError> {
+    bytes.extend_from_slice(&[0; 4])?;
+    bytes.extend_from_slice(&offset.to_be_bytes())?;
+    bytes.extend_from_slice(&[0, 0, 0, 4, 0, 0, 0, count])?;
+    bytes.extend_from_slice(&[0xdf, 0x3f, 0x61, 0x98, 0x04, 0xa9, 0x2f, 0xdb])?;
+    bytes.extend_from_slice(&[0; 8])
+}
 
 /// A small plot file of size 10, which is the plot of no id: each table has one park, of the four bytes 00 00 00 00.
 fn small_file(alloc: Global) -> Result<Vec<u8>, AllocError> {
@@ -17,20 +35,20 @@ fn small_file(alloc: Global) -> Result<Vec<u8>, AllocError> {
     bytes.extend_from_slice(&[0; 32])?;
     bytes.extend_from_slice(&[10, 0, 0, 0, 0, 0, 0, 0])?;
     for table in 0..7u64 {
-        let count: u64 = if table < 5 { 3 } else { 1 };
-        bytes.extend_from_slice(&count.to_be_bytes())?;
-        bytes.extend_from_slice(&(180 + 36 * table).to_be_bytes())?;
+        push_two(&mut bytes, if table < 5 { 3 } else { 1 }, 180 + 36 * table)?;
     }
     bytes.extend_from_slice(&428u64.to_be_bytes())?;
     for table in 0..7u64 {
-        bytes.extend_from_slice(&[0; 4])?;
-        bytes.extend_from_slice(&(176 + 36 * table).to_be_bytes())?;
-        bytes.extend_from_slice(&[0, 0, 0, 4, 0, 0, 0])?;
-        bytes.extend_from_slice(&[if table < 5 { 3 } else { 1 }])?;
-        bytes.extend_from_slice(&[0xdf, 0x3f, 0x61, 0x98, 0x04, 0xa9, 0x2f, 0xdb])?;
-        bytes.extend_from_slice(&[0; 8])?;
+        push_park(&mut bytes, 176 + 36 * table, if table < 5 { 3 } else { 1 })?;
     }
     Ok(bytes)
+}
+
+/// A disk with these bytes in the file `p`.
+fn disk_of(alloc: Global, bytes: &[u8]) -> Result<MemoryDisk, Memory> {
+    let mut disk = MemoryDisk::new(alloc, Vec::new(alloc));
+    disk.add("p", bytes)?;
+    Ok(disk)
 }
 
 // SHA-256 of 32 zeros and of the values 0 and 1 as two strings of 10 bits.
@@ -39,33 +57,78 @@ const QUALITY: [u8; 32] = [
     0x05, 0x5d, 0x53, 0xed, 0x81, 0x38, 0x6c, 0xc8, 0x60, 0x34, 0x54, 0x66, 0xc8, 0xa8, 0x35, 0x00,
 ];
 
+/// The spans of two challenges in the small file.
+fn has_spans<D: Disk>(rt: &impl Abort, plot: &mut Plot, disk: &mut D)
+    requires { IsOpen plot.old (D.view disk.old) }
+    ensures { IsOpen plot.new (D.view disk.new) }
+{
+    assert_eq!(rt; find(plot, disk, &Challenge([0; 32])), Ok((0, 1)));
+    assert_eq!(rt; find(plot, disk, &Challenge([255; 32])), Ok((1, 1)));
+}
+
+/// The one place of table 7 of the small file shows a quality and no proof.
+fn has_a_quality<D: Disk>(rt: &impl Abort, plot: &mut Plot, disk: &mut D)
+    requires { IsOpen plot.old (D.view disk.old) }
+    ensures { IsOpen plot.new (D.view disk.new) }
+{
+    let zeros = Challenge([0; 32]);
+    if plot.count(7) == 1 {
+        assert_eq!(rt; quality_at(plot, disk, &zeros, 0), Ok(QUALITY));
+        assert_eq!(rt;
+            proof_at(plot, disk, &zeros, 0),
+            Err(ReadRefusal::Damage(Damage::NotAProof { at: 0 }))
+        );
+    }
+}
+
+/// The qualities that a plot has for a challenge.
+fn lists_qualities<D: Disk>(
+    rt: &impl Abort,
+    alloc: Global,
+    plot: &mut Plot,
+    disk: &mut D,
+    challenge: &Challenge,
+    want: [u8; 32],
+) -> Result<(), Fail>
+    requires { IsOpen plot.old (D.view disk.old) }
+    ensures { IsOpen plot.new (D.view disk.new) }
+{
+    let qualities = list_qualities(alloc, plot, disk, challenge)?;
+    assert_eq!(rt; qualities.as_slice(), [want].as_slice());
+    Ok(())
+}
+
+/// The proofs that a plot has for a challenge.
+fn lists_proofs<D: Disk>(
+    rt: &impl Abort,
+    alloc: Global,
+    plot: &mut Plot,
+    disk: &mut D,
+    challenge: &Challenge,
+    want: &[[u64; 64]],
+) -> Result<(), Fail>
+    requires { IsOpen plot.old (D.view disk.old) }
+    ensures { IsOpen plot.new (D.view disk.new) }
+{
+    let proofs = list_proofs(alloc, plot, disk, challenge)?;
+    assert_eq!(rt; proofs.as_slice(), want);
+    Ok(())
+}
+
 #[test]
 fn the_small_file_has_a_quality_and_no_proof(rt: HostRuntime) -> Result<(), Fail> {
     let alloc = rt.alloc();
     let bytes = small_file(alloc)?;
-    let mut disk = MemoryDisk::new(alloc, Vec::new(alloc));
-    disk.add("p", bytes.as_slice())?;
+    let mut disk = disk_of(alloc, bytes.as_slice())?;
     let mut plot = Plot::open(alloc, &mut disk, "p")?;
+    has_spans(&rt, &mut plot, &mut disk);
+    has_a_quality(&rt, &mut plot, &mut disk);
     let zeros = Challenge([0; 32]);
-    assert_eq!(rt; find(&mut plot, &mut disk, &zeros), Ok((0, 1)));
-    assert_eq!(rt;
-        find(&mut plot, &mut disk, &Challenge([255; 32])),
-        Ok((1, 1))
-    );
-    if plot.count(7) == 1 {
-        assert_eq!(rt; quality_at(&mut plot, &mut disk, &zeros, 0), Ok(QUALITY));
-        assert_eq!(rt;
-            proof_at(&mut plot, &mut disk, &zeros, 0),
-            Err(ReadRefusal::Damage(Damage::NotAProof { at: 0 }))
-        );
-    }
     assert_eq!(rt;
         list_proofs(alloc, &mut plot, &mut disk, &zeros).err(),
         Some(ListRefusal::Damage(Damage::NotAProof { at: 0 }))
     );
-    let qualities = list_qualities(alloc, &mut plot, &mut disk, &zeros)?;
-    assert_eq!(rt; qualities.as_slice(), [QUALITY].as_slice());
-    Ok(())
+    lists_qualities(&rt, alloc, &mut plot, &mut disk, &zeros, QUALITY)
 }
 
 // A plot file of size 12 of one tuple alone, that of the proof below: its pairs in plot order, as points of each table, sorted.
@@ -122,26 +185,26 @@ const VALUES_QUALITY: [u8; 32] = [
 #[test]
 fn a_file_of_one_proof_lists_it_and_its_quality(rt: HostRuntime) -> Result<(), Fail> {
     let alloc = rt.alloc();
-    let mut disk = MemoryDisk::new(alloc, Vec::new(alloc));
-    disk.add("p", &FILE)?;
+    let mut disk = disk_of(alloc, &FILE)?;
     let mut plot = Plot::open(alloc, &mut disk, "p")?;
     let mut challenge = Challenge([0; 32]);
     challenge.0[0] = 0x8e;
     challenge.0[1] = 0xb0;
     let before = disk.calls();
-    let proofs = list_proofs(alloc, &mut plot, &mut disk, &challenge)?;
-    assert_eq!(rt; proofs.as_slice(), [VALUES].as_slice());
+    lists_proofs(&rt, alloc, &mut plot, &mut disk, &challenge, &[VALUES])?;
     // the head of the one park for each end of the span, the park for the second, and 64 numbers, each by two reads
     assert_eq!(rt; disk.calls().wrapping_sub(before), 132);
-    let qualities = list_qualities(alloc, &mut plot, &mut disk, &challenge)?;
-    assert_eq!(rt; qualities.as_slice(), [VALUES_QUALITY].as_slice());
+    lists_qualities(&rt, alloc, &mut plot, &mut disk, &challenge, VALUES_QUALITY)?;
     challenge.0[1] = 0xaf;
-    let proofs = list_proofs(alloc, &mut plot, &mut disk, &challenge)?;
-    assert!(rt; proofs.is_empty());
+    lists_proofs(&rt, alloc, &mut plot, &mut disk, &challenge, &[])
+}
+
+#[test]
+fn the_laws_are_called(rt: HostRuntime) {
+    let _ = rt;
     a_plots_span_is_shown();
     a_whole_files_places_are_shown();
     a_plots_proofs_are_listed();
     damages_have_their_causes();
     damages_are_of_the_file();
-    Ok(())
 }

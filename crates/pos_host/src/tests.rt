@@ -1,12 +1,15 @@
 //! Real files and a real output: what no clause can say of them.
 
+ghost use Rattle.std.specs.Prelude.{◌+◌, ◌^◌, ◌<◌, ◌≤◌, length, IsTrue, IfOk, OnOk};
+ghost use Rattle.pos_edge.specs.Calls.{IsThere};
+
 use crate::{HostDisk, HostSink};
-use pos_edge::{CreateFault, Disk, DiskFailed, OpenFault, PutFailed, Sink, WorkFault, WriteFault};
-use std::alloc::Global;
-use std::fs::{File, Permissions};
+use pos_edge::{
+    CreateFault, Disk, DiskFailed, FileId, OpenFault, PutFailed, Sink, WorkFault, WriteFault,
+};
+use std::fs::Permissions;
 use std::io::{ErrorKind, Write};
 use std::os::unix::fs::{MetadataExt, PermissionsExt, symlink};
-use std::rt::Files;
 use std::test::Fail;
 use std::{fs, io};
 
@@ -92,22 +95,53 @@ fn a_writer_that_errs_at_once_is_no_sink(rt: HostRuntime) -> Result<(), Fail> {
     Ok(())
 }
 
-// Writes "plot file" in two pieces that overlap, syncs, reads four bytes at offset 3, and removes the file.
-fn round_trip<R: Files<File = File>>(
-    rt: &R,
-    alloc: Global,
+// Makes a file.
+fn made<D: Disk>(disk: &mut D, name: &str) -> Result<FileId, WorkFault>
+    ensures live { IfOk result (λ file. IsTrue ((D.view disk.new).is_live file.0)) }
+    ensures there { IfOk result (λ file. IsThere file.0 (D.view disk.new)) }
+{
+    disk.create(name).map_err(|_| WorkFault::DiskFailed)
+}
+
+// Writes a piece.
+fn write<D: Disk>(disk: &mut D, file: FileId, at: u64, bytes: &[u8]) -> Result<(), WorkFault>
+    requires live { IsTrue ((D.view disk.old).is_live file.0) }
+    requires there { IsThere file.0 (D.view disk.old) }
+    requires within { at ≤ (D.view disk.old).size_of file.0 }
+    requires fits { at + length bytes.now < 2 ^ 63 }
+    ensures live { OnOk result (IsTrue ((D.view disk.new).is_live file.0)) }
+    ensures there { OnOk result (IsThere file.0 (D.view disk.new)) }
+    ensures size { OnOk result (at + length bytes.now ≤ (D.view disk.new).size_of file.0) }
+{
+    disk.write_at(file, at, bytes)
+        .map_err(|_| WorkFault::DiskFailed)
+}
+
+// Writes "plot file" in pieces that overlap, and syncs.
+fn write_words<D: Disk>(disk: &mut D, file: FileId) -> Result<(), WorkFault>
+    requires live { IsTrue ((D.view disk.old).is_live file.0) }
+    requires there { IsThere file.0 (D.view disk.old) }
+    ensures live { OnOk result (IsTrue ((D.view disk.new).is_live file.0)) }
+    ensures there { OnOk result (IsThere file.0 (D.view disk.new)) }
+{
+    write(disk, file, 0, b"plot tale")?;
+    write(disk, file, 5, b"fi")?;
+    write(disk, file, 7, b"les")?;
+    disk.sync(file).map_err(|_| WorkFault::DiskFailed)
+}
+
+// Opens the file once more, reads four bytes at offset 3, and answers its size, which is the same through both FileIds.
+fn read_back<D: Disk>(
+    disk: &mut D,
+    file: FileId,
     name: &str,
     got: &mut [u8; 4],
-) -> Result<u64, WorkFault> {
-    let mut disk = HostDisk::new(rt, alloc);
-    let file = disk.create(name).map_err(|_| WorkFault::DiskFailed)?;
-    disk.write_at(file, 0, b"plot tale")
-        .map_err(|_| WorkFault::DiskFailed)?;
-    disk.write_at(file, 5, b"fi")
-        .map_err(|_| WorkFault::DiskFailed)?;
-    disk.write_at(file, 7, b"les")
-        .map_err(|_| WorkFault::DiskFailed)?;
-    disk.sync(file).map_err(|_| WorkFault::DiskFailed)?;
+) -> Result<u64, WorkFault>
+    requires live { IsTrue ((D.view disk.old).is_live file.0) }
+    requires there { IsThere file.0 (D.view disk.old) }
+    ensures live { OnOk result (IsTrue ((D.view disk.new).is_live file.0)) }
+    ensures there { OnOk result (IsThere file.0 (D.view disk.new)) }
+{
     let again = disk.open(name).map_err(|_| WorkFault::DiskFailed)?;
     let size = disk.size(again);
     if size != disk.size(file) || size < 7 {
@@ -115,6 +149,14 @@ fn round_trip<R: Files<File = File>>(
     }
     disk.read_at(again, 3, got)
         .map_err(|_| WorkFault::DiskFailed)?;
+    Ok(size)
+}
+
+// Writes a file, reads it back, and removes it.
+fn round_trip<D: Disk>(disk: &mut D, name: &str, got: &mut [u8; 4]) -> Result<u64, WorkFault> {
+    let file = made(disk, name)?;
+    write_words(disk, file)?;
+    let size = read_back(disk, file, name, got)?;
     disk.remove(file).map_err(|_| WorkFault::DiskFailed)?;
     Ok(size)
 }
@@ -122,12 +164,12 @@ fn round_trip<R: Files<File = File>>(
 #[test]
 fn a_real_file_is_written_read_back_and_removed(rt: HostRuntime) -> Result<(), Fail> {
     let mut got = [0; 4];
+    let mut disk = HostDisk::new(&rt, rt.alloc());
     assert_eq!(rt;
-        round_trip(&rt, rt.alloc(), "pos_host_round_trip", &mut got),
+        round_trip(&mut disk, "pos_host_round_trip", &mut got),
         Ok(10)
     );
     assert_eq!(rt; got.as_slice(), b"t fi".as_slice());
-    let mut disk = HostDisk::new(&rt, rt.alloc());
     assert_eq!(rt; disk.open("pos_host_round_trip"), Err(OpenFault::Absent));
     Ok(())
 }

@@ -1,7 +1,10 @@
+ghost use Rattle.pos_reader.specs.Plots.{IsOpen};
+
 use crate::{Damage, HeaderField, OpenRefusal, Plot, ReadRefusal};
 use pos_edge::{BlankDisk, Disk, Memory, MemoryDisk};
 use sha2::{Digest, Sha256};
 use std::alloc::{AllocError, Global};
+use std::process::Abort;
 use std::test::Fail;
 
 // How many numbers the tables of the small file below have.
@@ -12,24 +15,39 @@ const FIRST_PARK: usize = 176;
 
 const LAST_PARK: usize = 392;
 
-/// A small plot file of size 10: each table has one park, of the four bytes 00 00 00 00.
-fn small_file(alloc: Global) -> Result<Vec<u8>, AllocError> {
+/// The gate, the name, the id, the size and seven zeros.
+fn header_start(alloc: Global) -> Result<Vec<u8>, AllocError> {
     let mut bytes = Vec::new(alloc);
     bytes.extend_from_slice(b"\x01SPACEPLOT-OWN-1")?;
     bytes.extend_from_slice(&[0; 32])?;
     bytes.extend_from_slice(&[10, 0, 0, 0, 0, 0, 0, 0])?;
+    Ok(bytes)
+}
+
+/// Two numbers of eight bytes each.
+fn push_two(bytes: &mut Vec<u8>, first: u64, second: u64) -> Result<(), AllocError> {
+    bytes.extend_from_slice(&first.to_be_bytes())?;
+    bytes.extend_from_slice(&second.to_be_bytes())
+}
+
+/// A park of four zeros at this place, and the entry of it.
+fn push_park(bytes: &mut Vec<u8>, offset: u64, count: u8) -> Result<(), AllocError> {
+    bytes.extend_from_slice(&[0; 4])?;
+    bytes.extend_from_slice(&offset.to_be_bytes())?;
+    bytes.extend_from_slice(&[0, 0, 0, 4, 0, 0, 0, count])?;
+    bytes.extend_from_slice(&[0xdf, 0x3f, 0x61, 0x98, 0x04, 0xa9, 0x2f, 0xdb])?;
+    bytes.extend_from_slice(&[0; 8])
+}
+
+/// A small plot file of size 10: each table has one park, of the four bytes 00 00 00 00.
+fn small_file(alloc: Global) -> Result<Vec<u8>, AllocError> {
+    let mut bytes = header_start(alloc)?;
     for table in 0..7u64 {
-        bytes.extend_from_slice(&COUNTS[table as usize].to_be_bytes())?;
-        bytes.extend_from_slice(&(180 + 36 * table).to_be_bytes())?;
+        push_two(&mut bytes, COUNTS[table as usize], 180 + 36 * table)?;
     }
     bytes.extend_from_slice(&428u64.to_be_bytes())?;
     for table in 0..7u64 {
-        bytes.extend_from_slice(&[0; 4])?;
-        bytes.extend_from_slice(&(176 + 36 * table).to_be_bytes())?;
-        bytes.extend_from_slice(&[0, 0, 0, 4, 0, 0, 0])?;
-        bytes.extend_from_slice(&[if table < 5 { 3 } else { 1 }])?;
-        bytes.extend_from_slice(&[0xdf, 0x3f, 0x61, 0x98, 0x04, 0xa9, 0x2f, 0xdb])?;
-        bytes.extend_from_slice(&[0; 8])?;
+        push_park(&mut bytes, 176 + 36 * table, if table < 5 { 3 } else { 1 })?;
     }
     Ok(bytes)
 }
@@ -62,14 +80,42 @@ fn with_park(alloc: Global, at: usize, park: &[u8; 4]) -> Result<Vec<u8>, AllocE
     Ok(bytes)
 }
 
+/// Why the file `p` of a disk is not opened; None where it is.
+fn refusal_in<D: Disk>(alloc: Global, disk: &mut D) -> Option<OpenRefusal> {
+    match Plot::open(alloc, disk, "p") {
+        Ok(_) => None,
+        Err(refusal) => Some(refusal),
+    }
+}
+
+/// What reading number i of table t of the file `p` answers; None where it does not open or has no such place.
+fn number_in<D: Disk>(
+    alloc: Global,
+    disk: &mut D,
+    t: u8,
+    i: u64,
+) -> Option<Result<u128, ReadRefusal>> {
+    let Ok(mut plot) = Plot::open(alloc, disk, "p") else {
+        return None;
+    };
+    if t < 1 || t > 7 || plot.count(t) <= i {
+        return None;
+    }
+    Some(plot.number(disk, t, i))
+}
+
+/// A disk with these bytes in the file `p`, whose calls of these numbers fail.
+fn disk_of(alloc: Global, bytes: &[u8], failing: &[u64]) -> Result<MemoryDisk, Memory> {
+    let failing = failing.to_vec(alloc).map_err(|_| Memory)?;
+    let mut disk = MemoryDisk::new(alloc, failing);
+    disk.add("p", bytes)?;
+    Ok(disk)
+}
+
 /// Why a file of these bytes is not opened; None where it is.
 fn refusal_of(alloc: Global, bytes: &[u8]) -> Result<Option<OpenRefusal>, Memory> {
-    let mut disk = MemoryDisk::new(alloc, Vec::new(alloc));
-    disk.add("p", bytes)?;
-    match Plot::open(alloc, &mut disk, "p") {
-        Ok(_) => Ok(None),
-        Err(refusal) => Ok(Some(refusal)),
-    }
+    let mut disk = disk_of(alloc, bytes, &[])?;
+    Ok(refusal_in(alloc, &mut disk))
 }
 
 /// What reading number i of table t of a file answers; None where it does not open or has no such place.
@@ -79,15 +125,90 @@ fn number_of(
     t: u8,
     i: u64,
 ) -> Result<Option<Result<u128, ReadRefusal>>, Memory> {
-    let mut disk = MemoryDisk::new(alloc, Vec::new(alloc));
-    disk.add("p", bytes)?;
-    let Ok(mut plot) = Plot::open(alloc, &mut disk, "p") else {
-        return Ok(None);
-    };
-    if t < 1 || t > 7 || plot.count(t) <= i {
-        return Ok(None);
+    let mut disk = disk_of(alloc, bytes, &[])?;
+    Ok(number_in(alloc, &mut disk, t, i))
+}
+
+/// Opening a file of these bytes shows this damage.
+fn opening_shows(rt: &impl Abort, alloc: Global, bytes: &[u8], damage: Damage) -> Result<(), Fail> {
+    assert_eq!(rt;
+        refusal_of(alloc, bytes)?,
+        Some(OpenRefusal::Damage(damage))
+    );
+    Ok(())
+}
+
+/// Opening the small file with these bytes changed shows this damage.
+fn change_shows(
+    rt: &impl Abort,
+    alloc: Global,
+    changes: &[(usize, u8)],
+    damage: Damage,
+) -> Result<(), Fail> {
+    let bytes = changed(alloc, changes)?;
+    opening_shows(rt, alloc, bytes.as_slice(), damage)
+}
+
+/// Reading the first number of a table shows this damage.
+fn number_shows(
+    rt: &impl Abort,
+    alloc: Global,
+    bytes: &[u8],
+    t: u8,
+    damage: Damage,
+) -> Result<(), Fail> {
+    let want = Some(Err(ReadRefusal::Damage(damage)));
+    assert_eq!(rt; number_of(alloc, bytes, t, 0)?, want);
+    Ok(())
+}
+
+/// Reading number 2 of table 1 of the small file with one byte changed shows this damage.
+fn changed_number_shows(
+    rt: &impl Abort,
+    alloc: Global,
+    at: usize,
+    byte: u8,
+    damage: Damage,
+) -> Result<(), Fail> {
+    let bytes = changed(alloc, &[(at, byte)])?;
+    let want = Some(Err(ReadRefusal::Damage(damage)));
+    assert_eq!(rt;
+        number_of(alloc, bytes.as_slice(), 1, 2)?,
+        want,
+        "byte {at} made {byte}"
+    );
+    Ok(())
+}
+
+/// The id, the size, the length and the counts of the small file.
+fn has_header(rt: &impl Abort, plot: &Plot) {
+    assert_eq!(rt; plot.id().0, [0; 32]);
+    assert_eq!(rt; plot.size().k(), 10);
+    assert_eq!(rt; plot.length(), 428);
+    for table in 1..=7u8 {
+        assert_eq!(rt; plot.count(table), COUNTS[table as usize - 1]);
     }
-    Ok(Some(plot.number(&mut disk, t, i)))
+}
+
+/// Table 7 has one number, of the f7 0.
+fn has_last_table<D: Disk>(rt: &impl Abort, plot: &mut Plot, disk: &mut D)
+    requires { IsOpen plot.old (D.view disk.old) }
+{
+    assert_eq!(rt; plot.size().k(), 10);
+    assert_eq!(rt; plot.count(7), 1);
+    assert_eq!(rt; plot.head(disk, 0), Ok(0));
+    assert_eq!(rt; plot.under(disk, 0, 0), Ok(0));
+    assert_eq!(rt; plot.under(disk, 0, 1), Ok(1));
+}
+
+/// Over a disk that fails two times, table 6 has one number, which is read the third time.
+fn is_read_the_third_time<D: Disk>(rt: &impl Abort, plot: &mut Plot, disk: &mut D)
+    requires { IsOpen plot.old (D.view disk.old) }
+{
+    assert_eq!(rt; plot.count(6), 1);
+    assert_eq!(rt; plot.number(disk, 6, 0), Err(ReadRefusal::DiskFailed));
+    assert_eq!(rt; plot.number(disk, 6, 0), Err(ReadRefusal::DiskFailed));
+    assert_eq!(rt; plot.number(disk, 6, 0), Ok(0));
 }
 
 #[test]
@@ -95,16 +216,10 @@ fn the_small_file_shows_its_header(rt: HostRuntime) -> Result<(), Fail> {
     let alloc = rt.alloc();
     let bytes = small_file(alloc)?;
     assert_eq!(rt; bytes.len(), 428);
-    let mut disk = MemoryDisk::new(alloc, Vec::new(alloc));
-    disk.add("p", bytes.as_slice())?;
+    let mut disk = disk_of(alloc, bytes.as_slice(), &[])?;
     let plot = Plot::open(alloc, &mut disk, "p")?;
     assert_eq!(rt; disk.calls(), 2);
-    assert_eq!(rt; plot.id().0, [0; 32]);
-    assert_eq!(rt; plot.size().k(), 10);
-    assert_eq!(rt; plot.length(), 428);
-    for table in 1..=7u8 {
-        assert_eq!(rt; plot.count(table), COUNTS[table as usize - 1]);
-    }
+    has_header(&rt, &plot);
     Ok(())
 }
 
@@ -129,21 +244,16 @@ fn the_small_file_shows_its_numbers(rt: HostRuntime) -> Result<(), Fail> {
 #[test]
 fn table_7_of_the_small_file_shows_its_head_and_counts(rt: HostRuntime) -> Result<(), Fail> {
     let alloc = rt.alloc();
-    let mut disk = MemoryDisk::new(alloc, Vec::new(alloc));
-    disk.add("p", small_file(alloc)?.as_slice())?;
+    let bytes = small_file(alloc)?;
+    let mut disk = disk_of(alloc, bytes.as_slice(), &[])?;
     let mut plot = Plot::open(alloc, &mut disk, "p")?;
-    assert_eq!(rt; plot.size().k(), 10);
-    assert_eq!(rt; plot.count(7), 1);
-    assert_eq!(rt; plot.head(&mut disk, 0), Ok(0));
-    assert_eq!(rt; plot.under(&mut disk, 0, 0), Ok(0));
-    assert_eq!(rt; plot.under(&mut disk, 0, 1), Ok(1));
+    has_last_table(&rt, &mut plot, &mut disk);
     assert_eq!(rt; disk.calls(), 7);
     Ok(())
 }
 
 #[test]
 fn a_changed_field_of_the_header_is_named(rt: HostRuntime) -> Result<(), Fail> {
-    let alloc = rt.alloc();
     for (at, byte, field) in [
         (1, 0, HeaderField::Name),
         (15, 0, HeaderField::Name),
@@ -156,16 +266,13 @@ fn a_changed_field_of_the_header_is_named(rt: HostRuntime) -> Result<(), Fail> {
         (62, 9, HeaderField::Counts),
         (152, 255, HeaderField::Counts),
     ] {
-        let got = refusal_of(alloc, changed(alloc, &[(at, byte)])?.as_slice())?;
-        let want = OpenRefusal::Damage(Damage::Header { field });
-        assert_eq!(rt; got, Some(want), "byte {at} made {byte}");
+        change_shows(&rt, rt.alloc(), &[(at, byte)], Damage::Header { field })?;
     }
     Ok(())
 }
 
 #[test]
 fn a_changed_place_of_a_directory_is_named_by_its_table(rt: HostRuntime) -> Result<(), Fail> {
-    let alloc = rt.alloc();
     for (at, byte, table) in [
         (71, 0xaf, 1),
         (64, 255, 1),
@@ -173,9 +280,8 @@ fn a_changed_place_of_a_directory_is_named_by_its_table(rt: HostRuntime) -> Resu
         (87, 0xd0, 2),
         (167, 0xab, 7),
     ] {
-        let got = refusal_of(alloc, changed(alloc, &[(at, byte)])?.as_slice())?;
-        let want = OpenRefusal::Damage(Damage::Directory { table, park: 0 });
-        assert_eq!(rt; got, Some(want), "byte {at} made {byte}");
+        let damage = Damage::Directory { table, park: 0 };
+        change_shows(&rt, rt.alloc(), &[(at, byte)], damage)?;
     }
     Ok(())
 }
@@ -183,113 +289,77 @@ fn a_changed_place_of_a_directory_is_named_by_its_table(rt: HostRuntime) -> Resu
 #[test]
 fn of_two_damages_of_a_header_the_first_is_named(rt: HostRuntime) -> Result<(), Fail> {
     let alloc = rt.alloc();
-    for (first, second, want) in [
-        (
-            (0, 0),
-            (1, 0),
-            Damage::NotOpen {
-                length: 428,
-                gate: 0,
-            },
-        ),
-        (
-            (1, 0),
-            (48, 0),
-            Damage::Header {
-                field: HeaderField::Name,
-            },
-        ),
-        (
-            (48, 0),
-            (49, 1),
-            Damage::Header {
-                field: HeaderField::Size,
-            },
-        ),
-        (
-            (49, 1),
-            (56, 255),
-            Damage::Header {
-                field: HeaderField::Zeros,
-            },
-        ),
-        (
-            (56, 255),
-            (175, 0),
-            Damage::Header {
-                field: HeaderField::Counts,
-            },
-        ),
-        (
-            (175, 0),
-            (71, 0xaf),
-            Damage::Length {
-                said: 256,
-                found: 428,
-            },
-        ),
+    let gate = Damage::NotOpen {
+        length: 428,
+        gate: 0,
+    };
+    change_shows(&rt, alloc, &[(0, 0), (1, 0)], gate)?;
+    for (first, second, field) in [
+        ((1, 0), (48, 0), HeaderField::Name),
+        ((48, 0), (49, 1), HeaderField::Size),
+        ((49, 1), (56, 255), HeaderField::Zeros),
+        ((56, 255), (175, 0), HeaderField::Counts),
     ] {
-        let got = refusal_of(alloc, changed(alloc, &[first, second])?.as_slice())?;
-        assert_eq!(rt; got, Some(OpenRefusal::Damage(want)));
+        change_shows(&rt, alloc, &[first, second], Damage::Header { field })?;
     }
-    Ok(())
+    let length = Damage::Length {
+        said: 256,
+        found: 428,
+    };
+    change_shows(&rt, alloc, &[(175, 0), (71, 0xaf)], length)
+}
+
+/// The small file with one more byte, and its byte 175 as it is said.
+fn longer(alloc: Global, low: u8) -> Result<Vec<u8>, AllocError> {
+    let mut bytes = changed(alloc, &[(175, low)])?;
+    bytes.push(0)?;
+    Ok(bytes)
+}
+
+/// The small file cut off.
+fn shorter(alloc: Global, length: usize) -> Result<Vec<u8>, AllocError> {
+    let mut bytes = small_file(alloc)?;
+    bytes.truncate(length);
+    Ok(bytes)
 }
 
 #[test]
-fn a_file_that_is_too_short_or_too_long_is_refused(rt: HostRuntime) -> Result<(), Fail> {
+fn a_file_that_is_too_long_is_refused(rt: HostRuntime) -> Result<(), Fail> {
     let alloc = rt.alloc();
-    let mut bytes = small_file(alloc)?;
-    bytes.push(0)?;
-    assert_eq!(rt;
-        refusal_of(alloc, bytes.as_slice())?,
-        Some(OpenRefusal::Damage(Damage::Length {
-            said: 428,
-            found: 429
-        }))
-    );
+    let bytes = longer(alloc, 0xac)?;
+    let length = Damage::Length {
+        said: 428,
+        found: 429,
+    };
+    opening_shows(&rt, alloc, bytes.as_slice(), length)?;
     // The header says 429 bytes, and the last directory ends at 428.
-    let mut longer = changed(alloc, &[(175, 0xad)])?;
-    longer.push(0)?;
-    assert_eq!(rt;
-        refusal_of(alloc, longer.as_slice())?,
-        Some(OpenRefusal::Damage(Damage::Directory { table: 7, park: 0 }))
-    );
-    for (length, want) in [
-        (0, Damage::NotOpen { length: 0, gate: 0 }),
-        (1, Damage::NotOpen { length: 1, gate: 1 }),
-        (
-            175,
-            Damage::NotOpen {
-                length: 175,
-                gate: 1,
-            },
-        ),
-        (
-            176,
-            Damage::Length {
-                said: 428,
-                found: 176,
-            },
-        ),
-        (
-            427,
-            Damage::Length {
-                said: 428,
-                found: 427,
-            },
-        ),
-    ] {
-        bytes = small_file(alloc)?;
-        bytes.truncate(length);
-        let got = refusal_of(alloc, bytes.as_slice())?;
-        assert_eq!(rt; got, Some(OpenRefusal::Damage(want)), "{length} bytes");
+    let bytes = longer(alloc, 0xad)?;
+    let directory = Damage::Directory { table: 7, park: 0 };
+    opening_shows(&rt, alloc, bytes.as_slice(), directory)
+}
+
+#[test]
+fn a_file_that_is_too_short_is_refused(rt: HostRuntime) -> Result<(), Fail> {
+    let alloc = rt.alloc();
+    for (length, gate) in [(0, 0), (1, 1), (175, 1)] {
+        let bytes = shorter(alloc, length as usize)?;
+        opening_shows(
+            &rt,
+            alloc,
+            bytes.as_slice(),
+            Damage::NotOpen { length, gate },
+        )?;
+    }
+    for found in [176, 427] {
+        let bytes = shorter(alloc, found as usize)?;
+        let length = Damage::Length { said: 428, found };
+        opening_shows(&rt, alloc, bytes.as_slice(), length)?;
     }
     Ok(())
 }
 
 #[test]
 fn a_changed_byte_of_an_entry_or_a_park_is_refused(rt: HostRuntime) -> Result<(), Fail> {
-    let alloc = rt.alloc();
     for (at, byte) in [
         (191, 0),
         (189, 0x48),
@@ -299,22 +369,12 @@ fn a_changed_byte_of_an_entry_or_a_park_is_refused(rt: HostRuntime) -> Result<()
         (195, 4),
         (211, 1),
     ] {
-        let got = number_of(alloc, changed(alloc, &[(at, byte)])?.as_slice(), 1, 2)?;
-        let want = Damage::Directory { table: 1, park: 0 };
-        assert_eq!(rt;
-            got,
-            Some(Err(ReadRefusal::Damage(want))),
-            "byte {at} made {byte}"
-        );
+        let damage = Damage::Directory { table: 1, park: 0 };
+        changed_number_shows(&rt, rt.alloc(), at, byte, damage)?;
     }
     for (at, byte) in [(176, 1), (203, 0)] {
-        let got = number_of(alloc, changed(alloc, &[(at, byte)])?.as_slice(), 1, 2)?;
-        let want = Damage::Digest { table: 1, park: 0 };
-        assert_eq!(rt;
-            got,
-            Some(Err(ReadRefusal::Damage(want))),
-            "byte {at} made {byte}"
-        );
+        let damage = Damage::Digest { table: 1, park: 0 };
+        changed_number_shows(&rt, rt.alloc(), at, byte, damage)?;
     }
     Ok(())
 }
@@ -323,88 +383,90 @@ fn a_changed_byte_of_an_entry_or_a_park_is_refused(rt: HostRuntime) -> Result<()
 fn a_park_with_a_right_digest_is_refused_by_its_numbers(rt: HostRuntime) -> Result<(), Fail> {
     let alloc = rt.alloc();
     let filled = with_park(alloc, FIRST_PARK, &[0, 0, 0, 1])?;
-    assert_eq!(rt;
-        number_of(alloc, filled.as_slice(), 1, 0)?,
-        Some(Err(ReadRefusal::Damage(Damage::Form { table: 1, park: 0 })))
-    );
+    number_shows(
+        &rt,
+        alloc,
+        filled.as_slice(),
+        1,
+        Damage::Form { table: 1, park: 0 },
+    )?;
     let headed = changed(alloc, &[(427, 1)])?;
-    assert_eq!(rt;
-        number_of(alloc, headed.as_slice(), 7, 0)?,
-        Some(Err(ReadRefusal::Damage(Damage::Directory { table: 7, park: 0 })))
-    );
+    let directory = Damage::Directory { table: 7, park: 0 };
+    number_shows(&rt, alloc, headed.as_slice(), 7, directory)?;
     // The number 5 of table 7 is place 5 of table 6, which has one number.
     let outside = with_park(alloc, LAST_PARK, &[0, 0, 0x14, 0])?;
-    assert_eq!(rt;
-        number_of(alloc, outside.as_slice(), 7, 0)?,
-        Some(Err(ReadRefusal::Damage(Damage::Pointer { table: 7, at: 0 })))
-    );
-    Ok(())
+    number_shows(
+        &rt,
+        alloc,
+        outside.as_slice(),
+        7,
+        Damage::Pointer { table: 7, at: 0 },
+    )
+}
+
+/// A file of size 10 whose tables have no numbers.
+fn empty_file(alloc: Global) -> Result<Vec<u8>, AllocError> {
+    let mut bytes = header_start(alloc)?;
+    for _ in 0..7 {
+        push_two(&mut bytes, 0, 176)?;
+    }
+    bytes.extend_from_slice(&176u64.to_be_bytes())?;
+    Ok(bytes)
 }
 
 #[test]
 fn a_file_without_numbers_opens(rt: HostRuntime) -> Result<(), Fail> {
     let alloc = rt.alloc();
-    let mut bytes = Vec::new(alloc);
-    bytes.extend_from_slice(b"\x01SPACEPLOT-OWN-1")?;
-    bytes.extend_from_slice(&[0; 32])?;
-    bytes.extend_from_slice(&[10, 0, 0, 0, 0, 0, 0, 0])?;
-    for _ in 0..7 {
-        bytes.extend_from_slice(&[0; 15])?;
-        bytes.push(176)?;
-    }
-    bytes.extend_from_slice(&[0; 7])?;
-    bytes.push(176)?;
+    let bytes = empty_file(alloc)?;
     assert_eq!(rt; refusal_of(alloc, bytes.as_slice())?, None);
     assert_eq!(rt; number_of(alloc, bytes.as_slice(), 1, 0)?, None);
     Ok(())
 }
 
 #[test]
-fn a_failing_disk_is_named_and_the_plot_reads_on(rt: HostRuntime) -> Result<(), Fail> {
+fn a_failing_disk_is_named(rt: HostRuntime) -> Result<(), Fail> {
     let alloc = rt.alloc();
     let bytes = small_file(alloc)?;
-    let mut disk = MemoryDisk::new(alloc, Vec::new(alloc));
-    assert_eq!(rt;
-        Plot::open(alloc, &mut disk, "p").err(),
-        Some(OpenRefusal::Absent)
-    );
+    let mut none = MemoryDisk::new(alloc, Vec::new(alloc));
+    assert_eq!(rt; refusal_in(alloc, &mut none), Some(OpenRefusal::Absent));
     for call in [0, 1] {
-        let mut failing = MemoryDisk::new(alloc, vec![in alloc; call]?);
-        failing.add("p", bytes.as_slice())?;
+        let mut failing = disk_of(alloc, bytes.as_slice(), &[call])?;
         assert_eq!(rt;
-            Plot::open(alloc, &mut failing, "p").err(),
+            refusal_in(alloc, &mut failing),
             Some(OpenRefusal::DiskFailed)
         );
     }
-    let mut failing = MemoryDisk::new(alloc, vec![in alloc; 2, 4]?);
-    failing.add("p", bytes.as_slice())?;
-    let mut plot = Plot::open(alloc, &mut failing, "p")?;
-    assert_eq!(rt; plot.count(6), 1);
-    assert_eq!(rt;
-        plot.number(&mut failing, 6, 0),
-        Err(ReadRefusal::DiskFailed)
-    );
-    assert_eq!(rt;
-        plot.number(&mut failing, 6, 0),
-        Err(ReadRefusal::DiskFailed)
-    );
-    assert_eq!(rt; plot.number(&mut failing, 6, 0), Ok(0));
     Ok(())
+}
+
+#[test]
+fn a_plot_reads_on_after_a_failing_disk(rt: HostRuntime) -> Result<(), Fail> {
+    let alloc = rt.alloc();
+    let bytes = small_file(alloc)?;
+    let mut failing = disk_of(alloc, bytes.as_slice(), &[2, 4])?;
+    let mut plot = Plot::open(alloc, &mut failing, "p")?;
+    is_read_the_third_time(&rt, &mut plot, &mut failing);
+    Ok(())
+}
+
+/// Makes the file `p` with these bytes.
+fn make_file<D: Disk>(disk: &mut D, bytes: &[u8]) -> Result<(), Memory> {
+    let file = disk.create("p").map_err(|_| Memory)?;
+    disk.write_at(file, 0, bytes).map_err(|_| Memory)
 }
 
 #[test]
 fn a_disk_that_reads_zeros_shows_no_plot(rt: HostRuntime) -> Result<(), Fail> {
     let alloc = rt.alloc();
     let mut disk = BlankDisk::new(alloc);
-    let file = disk.create("p").map_err(|_| Memory)?;
-    disk.write_at(file, 0, small_file(alloc)?.as_slice())
-        .map_err(|_| Memory)?;
+    make_file(&mut disk, small_file(alloc)?.as_slice())?;
+    let want = Damage::NotOpen {
+        length: 428,
+        gate: 0,
+    };
     assert_eq!(rt;
-        Plot::open(alloc, &mut disk, "p").err(),
-        Some(OpenRefusal::Damage(Damage::NotOpen {
-            length: 428,
-            gate: 0
-        }))
+        refusal_in(alloc, &mut disk),
+        Some(OpenRefusal::Damage(want))
     );
     Ok(())
 }
@@ -437,6 +499,26 @@ fn misplaced(bytes: &[u8], length: u64) -> Option<Damage> {
     None
 }
 
+/// The first field of the header that can't be.
+fn broken_field(bytes: &[u8]) -> Option<HeaderField> {
+    if bytes.get(1..16)? != b"SPACEPLOT-OWN-1".as_slice() {
+        return Some(HeaderField::Name);
+    }
+    let k = *bytes.get(48)?;
+    if k < 10 || k > 32 {
+        return Some(HeaderField::Size);
+    }
+    if bytes.get(49..56)?.iter().any(|byte| *byte != 0) {
+        return Some(HeaderField::Zeros);
+    }
+    for table in 1..=7usize {
+        if eight(bytes, 40 + 16 * table)? > 2 << k {
+            return Some(HeaderField::Counts);
+        }
+    }
+    None
+}
+
 /// The first rule that a file breaks, as it stands in the format's table.
 fn first_broken(bytes: &[u8]) -> Option<Damage> {
     let length = bytes.len() as u64;
@@ -444,21 +526,8 @@ fn first_broken(bytes: &[u8]) -> Option<Damage> {
     if length < 176 || gate != 1 {
         return Some(Damage::NotOpen { length, gate });
     }
-    let field = |field| Some(Damage::Header { field });
-    if bytes.get(1..16)? != b"SPACEPLOT-OWN-1".as_slice() {
-        return field(HeaderField::Name);
-    }
-    let k = *bytes.get(48)?;
-    if k < 10 || k > 32 {
-        return field(HeaderField::Size);
-    }
-    if bytes.get(49..56)?.iter().any(|byte| *byte != 0) {
-        return field(HeaderField::Zeros);
-    }
-    for table in 1..=7usize {
-        if eight(bytes, 40 + 16 * table)? > 2 << k {
-            return field(HeaderField::Counts);
-        }
+    if let Some(field) = broken_field(bytes) {
+        return Some(Damage::Header { field });
     }
     let said = eight(bytes, 168)?;
     if said != length {
@@ -480,8 +549,7 @@ fn is_named(alloc: Global, bytes: &[u8]) -> Result<bool, Memory> {
 fn each_cut_and_each_changed_byte_shows_the_first_broken_rule(rt: HostRuntime) -> Result<(), Fail> {
     let alloc = rt.alloc();
     for length in 0..=428usize {
-        let mut bytes = small_file(alloc)?;
-        bytes.truncate(length);
+        let bytes = shorter(alloc, length)?;
         assert!(rt; is_named(alloc, bytes.as_slice())?, "{length} bytes");
     }
     for at in 0..428usize {
