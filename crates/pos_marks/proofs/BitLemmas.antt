@@ -4,10 +4,10 @@ use Rattle.std.proofs.lemmas.Bool.{cases_lt, cases_eq, ne_eqb}
 use Rattle.std.proofs.lemmas.List.{get_or-take, get_or_append_left, get_or_push, get_or-replicate, get_or_past, length-replicate, length-take-le, length_push}
 use Rattle.std.proofs.lemmas.List.Edits.{get_or-between, length-between}
 use Rattle.std.proofs.lemmas.Nat.{mod-pow-add, ones_cat, pow_pos, one_shl, and_mask}
-use Rattle.std.proofs.lemmas.Nat.Bits.{bit_at_set_same, bit_at_set_other}
+use Rattle.std.proofs.lemmas.Nat.Bits.{bit_at_cat_high, bit_at_cat_low, bit_at_set_same, bit_at_set_other}
 use Rattle.std.proofs.Math.Nat.{zero-div}
 use Rattle.std.specs.Prelude.{slice_range}
-use Rattle.std.specs.Int.{w8}
+use Rattle.std.specs.Int.{bit_at, from_le_bytes, w64, w8}
 use Rattle.std.specs.Int.RustNames.{bit_and, bit_or, count_ones}
 use Rattle.pos_lists.specs.Rank.{rank}
 use Rattle.pos_marks.specs.Bits.{is_set, has_bit, AreRankCounts}
@@ -66,33 +66,12 @@ unfolding is_set
 is_set-or_other n k i h ne = ap (λ b. eqb b 1) (bit_at_set_other w8 n k h i ne)
 
 -- the code's way to them
-pub rank-low : (n w r : ℕ) → w < 8 → r ≡ count_ones (bit_and n (1 * 2 ^ w % 256 - 1)) → r ≡ rank (is_set n) w
+pub rank-low : (n w r : ℕ) → w < 64 → r ≡ count_ones (bit_and n (1 * 2 ^ w % 2 ^ 64 - 1)) → r ≡ rank (is_set n) w
 rank-low n w r h e =
-    let s : 1 * 2 ^ w % 256 ≡ 2 ^ w = one_shl w 8 h in
+    let s : 1 * 2 ^ w % 2 ^ 64 ≡ 2 ^ w = one_shl w 64 h in
     e ∙ (ap (λ k. count_ones (bit_and n (k - 1))) s ∙ (ap count_ones (and_mask n w) ∙ sym (rank-is_set n w)))
 
 -- ---- bytes
-
--- the bits of the byte q
-pub has_bit-byte : (bytes : List ℕ) (q j : ℕ) → j < 8 → has_bit bytes (8 * q + j) ≡ is_set (get_or bytes q 0) j
-unfolding has_bit
-has_bit-byte bytes q j h =
-    let e : (8 * q + j) / 8 ≡ q = omega arith in
-    let f : (8 * q + j) % 8 ≡ j = omega arith in
-    rw (e, f) refl
-
--- so many of the first bytes, and some bits of the next
-pub rank-bytes : (bytes : List ℕ) (q w : ℕ) → w ≤ 8 → rank (has_bit bytes) (8 * q + w) ≡ rank (has_bit bytes) (8 * q) + rank (is_set (get_or bytes q 0)) w
-rank-bytes bytes q w h =
-    rank-add (has_bit bytes) (8 * q) w ∙ ap (λ k. rank (has_bit bytes) (8 * q) + k)
-    (rank-same (λ j. has_bit bytes (8 * q + j)) (is_set (get_or bytes q 0)) w (λ j l. has_bit-byte bytes q j (omega arith)))
-
--- one byte more
-pub rank-byte : (bytes : List ℕ) (q : ℕ) → get_or bytes q 0 < 256 → rank (has_bit bytes) (8 * (q + 1)) ≡ rank (has_bit bytes) (8 * q) + count_ones (get_or bytes q 0)
-rank-byte bytes q small =
-    let e : 8 * (q + 1) ≡ 8 * q + 8 = omega arith in
-    let f : get_or bytes q 0 % 2 ^ 8 ≡ get_or bytes q 0 = omega arith in
-    rw e (rank-bytes bytes q 8 (omega arith) ∙ ap (λ k. rank (has_bit bytes) (8 * q) + k) (rank-is_set (get_or bytes q 0) 8 ∙ ap count_ones f))
 
 -- the bits of a front of bytes, and of a part
 pub has_bit-take : (bytes : List ℕ) (n i : ℕ) → i < 8 * n → has_bit (take n bytes) i ≡ has_bit bytes i
@@ -111,15 +90,88 @@ has_bit-part bytes a e i h =
 pub rank-part : (bytes : List ℕ) (a e n : ℕ) → 8 * a + n ≤ 8 * e → rank (has_bit (slice_range bytes a e)) n ≡ rank (λ j. has_bit bytes (8 * a + j)) n
 rank-part bytes a e n h = rank-same (has_bit (slice_range bytes a e)) (λ j. has_bit bytes (8 * a + j)) n (λ i l. has_bit-part bytes a e i (omega arith))
 
--- the whole bytes before a bit, and the bits of its byte before it
-pub rank-before : (bytes : List ℕ) (n : ℕ) → n < 8 * length bytes
-    → rank (has_bit (take (n / 8) bytes)) (8 * length (take (n / 8) bytes)) + rank (is_set (get_or bytes (n / 8) 0)) (n % 8) ≡ rank (has_bit bytes) n
-rank-before bytes n h =
-    let q = n / 8 in
-    let len : length (take q bytes) ≡ q = length-take-le q bytes (omega arith) in
-    let front : rank (has_bit (take q bytes)) (8 * q) ≡ rank (has_bit bytes) (8 * q) = rank-same (has_bit (take q bytes)) (has_bit bytes) (8 * q) (λ i l. has_bit-take bytes q i l) in
-    let whole : 8 * q + n % 8 ≡ n = omega arith in
-    rw len (ap (λ k. k + rank (is_set (get_or bytes q 0)) (n % 8)) front ∙ (sym (rank-bytes bytes q (n % 8) (omega arith)) ∙ ap (rank (has_bit bytes)) whole))
+-- ---- words of eight bytes
+
+-- bytes as a number, the first of them lowest
+number_of : List ℕ → ℕ
+number_of [] = 0
+number_of (b ∷ bs) = number_of bs * 2 ^ 8 + b
+
+number_bit : (bs : List ℕ) → ((i : ℕ) → get_or bs i 0 < 256) → (j : ℕ) → is_set (number_of bs) j ≡ has_bit bs j
+unfolding is_set has_bit number_of
+number_bit [] small j = let e = zero-div (2 ^ j) in let f = zero-div (2 ^ (j % 8)) in rw (e, f) refl
+number_bit (b ∷ bs) small j = elim (cases_lt j 8) [
+  | inl low ↦
+      let e : bit_at (number_of bs * 2 ^ 8 + b) j ≡ bit_at b j = bit_at_cat_low (number_of bs) 8 b j low in
+      let d : j / 8 ≡ 0 = omega arith in
+      let m : j % 8 ≡ j = omega arith in
+      ap (λ r. eqb r 1) e ∙ rw (d, m) refl
+  | inr high ↦
+      let e : bit_at (number_of bs * 2 ^ 8 + b) j ≡ bit_at (number_of bs) (j - 8) = bit_at_cat_high (number_of bs) 8 b j (small 0) high in
+      let d : j / 8 ≡ suc ((j - 8) / 8) = omega arith in
+      let m : j % 8 ≡ (j - 8) % 8 = omega arith in
+      ap (λ r. eqb r 1) e ∙ (number_bit bs (λ i. small (suc i)) (j - 8) ∙ rw (d, m) refl)
+]
+
+horner : (a b c d e f g h : ℕ)
+    → a + b * 256 ^ 1 + c * 256 ^ 2 + d * 256 ^ 3 + e * 256 ^ 4 + f * 256 ^ 5 + g * 256 ^ 6 + h * 256 ^ 7
+    ≡ (((((((0 * 2 ^ 8 + h) * 2 ^ 8 + g) * 2 ^ 8 + f) * 2 ^ 8 + e) * 2 ^ 8 + d) * 2 ^ 8 + c) * 2 ^ 8 + b) * 2 ^ 8 + a
+horner a b c d e f g h = omega arith
+
+from_le-number : (a b c d e f g h : ℕ) → from_le_bytes w64 (a ∷ b ∷ c ∷ d ∷ e ∷ f ∷ g ∷ h ∷ []) ≡ number_of (a ∷ b ∷ c ∷ d ∷ e ∷ f ∷ g ∷ h ∷ [])
+unfolding number_of
+from_le-number a b c d e f g h = horner a b c d e f g h
+
+eight_items : (bs : List ℕ) → length bs ≡ 8
+    → bs ≡ get_or bs 0 0 ∷ get_or bs 1 0 ∷ get_or bs 2 0 ∷ get_or bs 3 0 ∷ get_or bs 4 0 ∷ get_or bs 5 0 ∷ get_or bs 6 0 ∷ get_or bs 7 0 ∷ []
+eight_items (a ∷ b ∷ c ∷ d ∷ e ∷ f ∷ g ∷ h ∷ []) l = refl
+eight_items _ l = absurd (omega arith)
+
+-- the bits of a word that was read
+pub word_bit : (bytes part : List ℕ) (i n : ℕ) → 8 * i + 8 ≤ length bytes → ((k : ℕ) → k < length bytes → get_or bytes k 0 < 256) → part ≡ slice_range bytes (i * 8) (i * 8 + 8)
+    → n ≡ from_le_bytes w64 (get_or part 0 0 ∷ get_or part 1 0 ∷ get_or part 2 0 ∷ get_or part 3 0 ∷ get_or part 4 0 ∷ get_or part 5 0 ∷ get_or part 6 0 ∷ get_or part 7 0 ∷ [])
+    → (j : ℕ) → j < 64 → is_set n j ≡ has_bit bytes (64 * i + j)
+word_bit bytes part i n fits small is e j low =
+    let long : length part ≡ 8 = ap length is ∙ (length-between bytes (i * 8) (i * 8 + 8) (omega arith) ∙ omega arith) in
+    let few : (k : ℕ) → get_or part k 0 < 256 = λ k. elim (cases_lt k 8) [
+      | inl inside ↦
+          let at : get_or part k 0 ≡ get_or bytes (i * 8 + k) 0 = ap (λ xs. get_or xs k 0) is ∙ get_or-between bytes (i * 8) (i * 8 + 8) k 0 (omega arith) in
+          let one = small (i * 8 + k) (omega arith) in
+          omega arith
+      | inr past ↦ let none : get_or part k 0 ≡ 0 = get_or_past part k 0 (omega arith) in omega arith
+    ] in
+    let whole : n ≡ number_of part =
+    e ∙ (from_le-number (get_or part 0 0) (get_or part 1 0) (get_or part 2 0) (get_or part 3 0) (get_or part 4 0) (get_or part 5 0) (get_or part 6 0) (get_or part 7 0)
+    ∙ sym (ap number_of (eight_items part long))) in
+    let place : 8 * (i * 8) + j ≡ 64 * i + j = omega arith in
+    ap (λ k. is_set k j) whole ∙ (number_bit part few j ∙ (ap (λ xs. has_bit xs j) is ∙ (has_bit-part bytes (i * 8) (i * 8 + 8) j (omega arith) ∙ ap (has_bit bytes) place)))
+
+-- so many of the first words, and some bits of the next
+pub rank-words : (bytes : List ℕ) (i n w : ℕ) → ((j : ℕ) → j < 64 → is_set n j ≡ has_bit bytes (64 * i + j)) → w ≤ 64
+    → rank (has_bit bytes) (64 * i + w) ≡ rank (has_bit bytes) (64 * i) + rank (is_set n) w
+rank-words bytes i n w bit h =
+    rank-add (has_bit bytes) (64 * i) w
+    ∙ ap (λ k. rank (has_bit bytes) (64 * i) + k) (rank-same (λ j. has_bit bytes (64 * i + j)) (is_set n) w (λ j l. sym (bit j (omega arith))))
+
+-- one word more
+pub rank-word : (bytes : List ℕ) (i n : ℕ) → n < 2 ^ 64 → ((j : ℕ) → j < 64 → is_set n j ≡ has_bit bytes (64 * i + j))
+    → rank (has_bit bytes) (64 * (i + 1)) ≡ rank (has_bit bytes) (64 * i) + count_ones n
+rank-word bytes i n small bit =
+    let e : 64 * (i + 1) ≡ 64 * i + 64 = omega arith in
+    let f : n % 2 ^ 64 ≡ n = omega arith in
+    ap (rank (has_bit bytes)) e ∙ (rank-words bytes i n 64 bit (omega arith) ∙ ap (λ k. rank (has_bit bytes) (64 * i) + k) (rank-is_set n 64 ∙ ap count_ones f))
+
+-- the whole words before a bit, and the bits of its word before it
+pub rank-before : (bytes : List ℕ) (n word : ℕ) → n < 8 * length bytes → ((j : ℕ) → j < 64 → is_set word j ≡ has_bit bytes (64 * (n / 64) + j))
+    → rank (has_bit (take (n / 64 * 8) bytes)) (8 * length (take (n / 64 * 8) bytes)) + rank (is_set word) (n % 64) ≡ rank (has_bit bytes) n
+rank-before bytes n word h bit =
+    let q = n / 64 in
+    let len : length (take (q * 8) bytes) ≡ q * 8 = length-take-le (q * 8) bytes (omega arith) in
+    let at : 8 * (q * 8) ≡ 64 * q = omega arith in
+    let front : rank (has_bit (take (q * 8) bytes)) (64 * q) ≡ rank (has_bit bytes) (64 * q) =
+    rank-same (has_bit (take (q * 8) bytes)) (has_bit bytes) (64 * q) (λ i l. has_bit-take bytes (q * 8) i (omega arith)) in
+    let whole : 64 * q + n % 64 ≡ n = omega arith in
+    rw (len, at) (ap (λ k. k + rank (is_set word) (n % 64)) front ∙ (sym (rank-words bytes q word (n % 64) bit (omega arith)) ∙ ap (rank (has_bit bytes)) whole))
 
 -- one bit set
 pub has_bit-set : (bytes : List ℕ) (i j : ℕ) → i < 8 * length bytes

@@ -12,3 +12,6 @@ mod pages;
 mod set;
 
 pub use set::Marks;
+
+#[cfg(test)]
+mod tests;
