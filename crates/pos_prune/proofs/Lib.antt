@@ -1,2 +1,4 @@
+pub mod KeptLemmas
 pub mod MarkingLemmas
 pub mod PassLemmas
+mod SeveralLemmas

@@ -1,5 +1,5 @@
 -- The making of one level's marks: a new set, a pass, and its seal, past the files that were there.
-use Rattle.std.proofs.Common.{◌≡◌, ℕ, suc, ◌+◌, ◌<◌, ◌≤◌, ◌⊎◌, Bool, true, false, List, ◌++◌, [], ◌∷◌, length, Option, Some, refl, sym, ap, ◌∙◌, subst, inl, inr, arith, get_or, Any}
+use Rattle.std.proofs.Common.{◌≡◌, ℕ, suc, ◌+◌, ◌<◌, ◌≤◌, Bool, true, List, [], ◌∷◌, length, refl, sym, ap, ◌∙◌, subst, inl, inr, arith, get_or}
 use Rattle.std.proofs.lemmas.Bool.{cases_Bool, false≢true}
 use Rattle.std.proofs.lemmas.List.{get_or_append_left, get_or_push, length_push}
 use Rattle.std.proofs.lemmas.Option.{none-some, same_Some}
@@ -9,30 +9,29 @@ use Rattle.pos_edge.specs.Frame.{ChangesFile, ChangesOnly, Just, KeepsIds, NameO
 use Rattle.pos_edge.specs.Calls.{IsCreated, WasThere}
 use Rattle.pos_edge.specs.FileSets.{IsOutside}
 use Rattle.pos_edge.specs.ScratchNames.{IsLeft, ScratchState, StandsOn, next_name, scratch_name, with_file}
-use Rattle.pos_edge.specs.ScratchWork.{IsNameBetween, IsScratchDone, IsScratchWork}
+use Rattle.pos_edge.specs.ScratchWork.{IsNameBetween, IsScratchDone}
 use Rattle.pos_edge.specs.declared.scratch.ScratchDamage.{ScratchDamage}
 use Rattle.pos_edge.specs.declared.scratch.ScratchFile.{ScratchFile}
 use Rattle.pos_edge.specs.declared.scratch.WorkFault.{WorkFault}
-use Rattle.pos_edge.specs.declared.scratch.WorkFault.TheVariants.{DiskFailed, Exists, Memory, Scratch}
+use Rattle.pos_edge.specs.declared.scratch.WorkFault.TheVariants.{DiskFailed, Exists, Scratch}
 use Rattle.pos_edge.proofs.FaultLemmas.{Rose-since}
 use Rattle.pos_edge.proofs.FileSetLemmas.{left_name, left_together}
 use Rattle.pos_edge.proofs.Frames.{frame_then, frame_wider}
 use Rattle.pos_edge.proofs.ScratchFiles.{scratch_name-same}
 use Rattle.pos_edge.proofs.ScratchWorkLemmas.{done_beside, done_then, name_is_there, next_between, work_beside, work_then}
 use Rattle.pos_lists.specs.Places.{no_place}
-use Rattle.pos_lists.specs.TableLists.{PairsInside, TableLists, entries}
-use Rattle.pos_lists.specs.Used.{MarksUsed, NamedBelow}
+use Rattle.pos_lists.specs.TableLists.{TableLists, entries}
+use Rattle.pos_lists.specs.Used.{NamedBelow}
 use Rattle.pos_lists.proofs.NamedLemmas.{nothing_is_named}
 use Rattle.pos_lists.proofs.UsedLemmas.{marked_by_the_next_table}
 use Rattle.pos_marks.specs.declared.set.Marks.{Marks}
-use Rattle.pos_marks.specs.Marks.{AreNewMarks, AreSealed, Marked, SameMarks, marks_file, place_count}
+use Rattle.pos_marks.specs.Marks.{AreNewMarks, AreSealed, Marked, SameMarks, marks_file}
 use Rattle.pos_marks.proofs.MarkLemmas.{marked_beside}
-use Rattle.pos_marks.proofs.PageLemmas.{ids_then}
 use Rattle.pos_runs.specs.Runs.{IsTablesFile, TablesStand, TablesState, pages_at}
 use Rattle.pos_runs.proofs.ListLemmas.{new-done, new-refused, new-work}
 use Rattle.pos_runs.proofs.TablesLemmas.{tables-outside}
 use Rattle.pos_prune.specs.Marking.{AreMarksMade, IsMarkFault, IsMarking}
-use Rattle.pos_prune.specs.Passes.{HasAsked, HasMarked, IsPairDamage, IsPassFault}
+use Rattle.pos_prune.specs.Passes.{HasAsked, HasMarked, IsPassFault}
 use Rattle.pos_prune.proofs.PassLemmas.{entries_count}
 
 -- ---- files that are left beside one that is made

@@ -1,6 +1,6 @@
 -- Passes over the pairs of a table, one place after another.
-use Rattle.std.proofs.Common.{◌≡◌, ℕ, zero, suc, ◌+◌, ◌<◌, ◌≤◌, Bool, true, false, List, length, map, Some, Result, Ok, Err, refl, sym, ap, ◌∙◌, subst, inl, inr, arith, get_or-set_other}
-use Rattle.std.specs.Prelude.{IfErr, IsErrAnd, slice_get, slice_set, slice_index_or}
+use Rattle.std.proofs.Common.{◌≡◌, ℕ, zero, suc, ◌+◌, ◌<◌, ◌≤◌, Bool, true, false, Some, Result, Ok, Err, refl, sym, ap, ◌∙◌, subst, inl, inr, arith, get_or-set_other}
+use Rattle.std.specs.Prelude.{IfErr, IsErrAnd, slice_get, slice_set}
 use Rattle.std.proofs.lemmas.Bool.{cases_eq}
 use Rattle.std.proofs.lemmas.List.{length-map}
 use Rattle.std.proofs.lemmas.Option.{get_or_from_slice_get}
@@ -24,7 +24,7 @@ use Rattle.pos_runs.specs.Lists.{IsListRead}
 use Rattle.pos_runs.specs.Pages.{ListPages}
 use Rattle.pos_runs.specs.Runs.{TablesState, TablesStand, no_pages, pages_at, pair_record, value_record}
 use Rattle.pos_runs.proofs.TablesLemmas.{tables-read}
-use Rattle.pos_prune.specs.Passes.{HasAsked, HasMarked, IsPairDamage, IsPassFault, MarksPairs, SameLists, gives, gives_below, is_marked}
+use Rattle.pos_prune.specs.Passes.{HasAsked, HasMarked, IsPairDamage, IsPassFault, SameLists, gives, is_marked}
 
 -- ---- reads
 

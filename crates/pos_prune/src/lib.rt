@@ -11,5 +11,7 @@ mod damage;
 mod kept;
 mod levels;
 mod pairs;
+mod pruning;
 
 pub use kept::Kept;
+pub use pruning::prune;

@@ -1,15 +1,12 @@
-use Rattle.std.proofs.Common.{◌≡◌, ◌+◌, ◌-◌, ◌<◌, ℕ, suc, Bool, Err, refl, sym, ap, ◌∙◌, subst, arith}
-use Rattle.pos_edge.specs.Calls.{IsCreated}
+use Rattle.std.proofs.Common.{ℕ, Err, ap, ◌∙◌, subst, arith}
 use Rattle.pos_edge.specs.Frame.{ChangesFile}
-use Rattle.pos_edge.specs.ScratchNames.{next_name}
 use Rattle.pos_edge.specs.declared.scratch.WorkFault.{WorkFault}
 use Rattle.pos_marks.specs.Marks.{marks_file}
-use Rattle.pos_marks.proofs.MarkLemmas.{marked_beside}
 use Rattle.pos_runs.specs.Runs.{pages_at}
 use Rattle.pos_prune.specs.Marking.{IsMarkFault}
-use Rattle.pos_prune.specs.Passes.{gives_below, is_marked}
-use Rattle.pos_prune.proofs.MarkingLemmas.{above_asked, fault_new, fault_pass, fault_seal, level_made, made_frame, marking_made, marking_refused, marks_made, reads_frame, tables_made}
-use Rattle.pos_prune.proofs.PassLemmas.{if_err, reads_then}
+use Rattle.pos_prune.specs.Passes.{gives_below}
+use Rattle.pos_prune.proofs.MarkingLemmas.{fault_new, fault_pass, level_made, made_frame, marking_made, marking_refused, reads_frame, tables_made}
+use Rattle.pos_prune.proofs.PassLemmas.{if_err}
 use Rattle.pos_marks.proofs.PageLemmas.{ids_then}
 use Rattle.pos_prune.proofs.levels.marks_of_six.Goals as goal
 

@@ -1,4 +1,4 @@
-use Rattle.std.proofs.Common.{◌≡◌, ◌+◌, ◌<◌, ℕ, Bool, sym, ◌∙◌, subst, arith}
+use Rattle.std.proofs.Common.{◌≡◌, ◌+◌, ◌<◌, ℕ, sym, ◌∙◌, subst, arith}
 use Rattle.pos_edge.specs.declared.scratch.WorkFault.{WorkFault}
 use Rattle.pos_marks.proofs.MarkLemmas.{reads_none}
 use Rattle.pos_runs.specs.Runs.{pages_at}

@@ -1,9 +1,8 @@
-use Rattle.std.proofs.Common.{◌≡◌, ◌+◌, ◌-◌, ◌<◌, ℕ, suc, Bool, sym, ap, ◌∙◌, subst, arith}
+use Rattle.std.proofs.Common.{◌≡◌, ◌+◌, ◌-◌, ℕ, suc, sym, ap, ◌∙◌, subst, arith}
 use Rattle.pos_edge.specs.declared.scratch.WorkFault.{WorkFault}
 use Rattle.pos_runs.specs.Runs.{pages_at}
-use Rattle.pos_marks.proofs.MarkLemmas.{reads_none}
 use Rattle.pos_prune.specs.Passes.{HasMarked, IsPassFault, is_marked}
-use Rattle.pos_prune.proofs.PassLemmas.{asked_none, asked_then, fault_then, if_err, marked_none, marked_then}
+use Rattle.pos_prune.proofs.PassLemmas.{asked_then, fault_then, if_err, marked_then}
 use Rattle.pos_prune.proofs.pairs.mark_kept.Goals as goal
 
 pub mark_where_kept-requires : goal.mark_where_kept-requires

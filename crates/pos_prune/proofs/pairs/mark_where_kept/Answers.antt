@@ -1,9 +1,8 @@
-use Rattle.std.proofs.Common.{◌≡◌, ◌+◌, ◌-◌, suc, refl, sym, ap, ◌∙◌, arith}
-use Rattle.pos_edge.specs.Frame.{SameFaults}
+use Rattle.std.proofs.Common.{sym, ◌∙◌, arith}
 use Rattle.pos_marks.proofs.MarkLemmas.{marked_reads}
 use Rattle.pos_runs.proofs.TablesLemmas.{tables-read}
 use Rattle.pos_edge.specs.declared.scratch.WorkFault.{WorkFault}
-use Rattle.pos_prune.specs.Passes.{HasAsked, IsPassFault}
+use Rattle.pos_prune.specs.Passes.{IsPassFault}
 use Rattle.pos_prune.proofs.PassLemmas.{asked_read, fault_then, if_err, lists_none, passed_on, passed_over}
 use Rattle.pos_prune.proofs.pairs.mark_where_kept.Goals as goal
 
