@@ -1,6 +1,6 @@
 -- Rows that are read one after another, and the refusals on the way.
-use Rattle.std.proofs.Common.{◌≡◌, ◌⊎◌, ℕ, ◌+◌, ◌*◌, ◌/◌, ◌-◌, ◌^◌, ◌≤◌, ◌<◌, min, nat_eq, cond, Bool, true, false, zero, suc, List, [], ◌∷◌, ◌++◌, length, map, take, drop, get_or, Result, Ok, Err, Some, refl, sym, ap, ◌∙◌, subst, inl, inr, arith, All, Any}
-use Rattle.std.specs.Prelude.{IsErrOf, IfErr, OnOk, slice_get}
+use Rattle.std.proofs.Common.{◌≡◌, ℕ, ◌+◌, ◌*◌, ◌/◌, ◌^◌, ◌≤◌, ◌<◌, cond, Bool, true, false, List, [], ◌∷◌, ◌++◌, length, map, take, drop, get_or, Result, Ok, Err, Some, refl, sym, ap, ◌∙◌, subst, inl, inr, arith, All, Any}
+use Rattle.std.specs.Prelude.{IsErrOf, IfErr, slice_get}
 use Rattle.std.proofs.Math.Nat.{div-le_self}
 use Rattle.std.proofs.lemmas.Bool.{cases_eq, ne_eqb, true≢false}
 use Rattle.std.proofs.lemmas.List.{get_or-map, get_or-take, get_or_push, length_push, length-map, map-append, take-append-drop, take-map, take_all}
@@ -8,15 +8,15 @@ use Rattle.std.proofs.lemmas.List.Elements.{All-nil, All-push, All-weaker}
 use Rattle.std.proofs.lemmas.Option.{get_or_from_slice_get}
 use Rattle.pos_edge.specs.Faults.{Rose, counted}
 use Rattle.pos_edge.specs.View.{View}
-use Rattle.pos_edge.specs.Frame.{KeepsIds, Nothing, ReadsOnly, SameFaults, SameFaultsBut}
+use Rattle.pos_edge.specs.Frame.{Nothing, ReadsOnly, SameFaults}
 use Rattle.pos_edge.specs.declared.scratch.ScratchDamage.{ScratchDamage}
 use Rattle.pos_edge.specs.declared.scratch.WorkFault.{WorkFault}
 use Rattle.pos_edge.specs.declared.scratch.WorkFault.TheVariants.{DiskFailed, Exists, Scratch, Memory}
-use Rattle.pos_edge.proofs.FaultLemmas.{Rose-since, faults_then}
+use Rattle.pos_edge.proofs.FaultLemmas.{Rose-since}
 use Rattle.pos_edge.proofs.Frames.{frame_none, frame_then}
 use Rattle.pos_tuple.specs.declared.entry.Entry.{Entry}
 use Rattle.pos_runs.specs.Pages.{ListPages, ListStands, ListHolds, per_page}
-use Rattle.pos_runs.specs.Lists.{IsListRead, SameListFile, reads_after}
+use Rattle.pos_runs.specs.Lists.{IsListRead, reads_after}
 use Rattle.pos_runs.specs.Runs.{StandsSealed}
 use Rattle.pos_laws.specs.Making.{AreMatching, NeverFalls}
 use Rattle.pos_forward.specs.declared.drafts.Draft.{Draft}

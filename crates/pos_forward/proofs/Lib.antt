@@ -11,3 +11,7 @@ mod StoreLemmas
 mod WorkLemmas
 mod WayLemmas
 mod GatheringLemmas
+mod NextLemmas
+mod SoFarLemmas
+mod OneLemmas
+mod SevenLemmas

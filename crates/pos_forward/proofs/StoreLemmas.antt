@@ -1,11 +1,11 @@
 -- Two lists that are written side by side.
-use Rattle.std.proofs.Common.{◌≡◌, ◌≢◌, ℕ, ◌+◌, ◌<◌, Bool, false, true, List, [], ◌∷◌, ◌++◌, length, map, take, get_or, add-one, refl, sym, ap, ◌∙◌, subst, inl, inr, arith, append_assoc, length-append}
+use Rattle.std.proofs.Common.{◌≡◌, ℕ, ◌+◌, ◌<◌, Bool, false, true, List, [], ◌∷◌, ◌++◌, length, map, take, get_or, add-one, refl, sym, ap, ◌∙◌, subst, inl, inr, arith, append_assoc, length-append}
 use Rattle.std.proofs.Math.Seq.{take-suc}
 use Rattle.std.proofs.lemmas.List.{append-nil, map-append}
 use Rattle.pos_edge.specs.View.{View, IsDisk}
 use Rattle.std.proofs.lemmas.Bool.{cases_Bool, false≢true}
 use Rattle.std.proofs.Common.{◌⊎◌, ◌≤◌}
-use Rattle.pos_edge.specs.Frame.{ChangesOnly, KeepsIds, NameOf, Nothing, Just}
+use Rattle.pos_edge.specs.Frame.{ChangesOnly, NameOf, Nothing, Just}
 use Rattle.pos_edge.specs.ScratchNames.{ScratchState, next_name, with_file}
 use Rattle.pos_edge.specs.ScratchWork.{IsNameBetween}
 use Rattle.pos_edge.proofs.Frames.{frame_none, frame_then}

@@ -1,19 +1,19 @@
 -- Two new lists from their making to their sealing.
-use Rattle.std.proofs.Common.{◌≡◌, ◌≢◌, ◌⊎◌, ℕ, ◌+◌, ◌≤◌, ◌<◌, Bool, true, false, List, [], ◌++◌, Result, Ok, Err, Some, None, refl, sym, ap, ◌∙◌, subst, inl, inr, arith}
+use Rattle.std.proofs.Common.{◌≡◌, ℕ, ◌+◌, ◌≤◌, Bool, true, false, List, [], Result, Err, Some, sym, ap, ◌∙◌, subst, inl, inr, arith}
 use Rattle.std.specs.Prelude.{IsErrOf}
 use Rattle.std.proofs.lemmas.Bool.{cases_Bool, true≢false}
 use Rattle.std.proofs.lemmas.Option.{none-some}
 use Rattle.pos_edge.specs.Faults.{Rose}
 use Rattle.pos_edge.specs.View.{View, IsDisk}
-use Rattle.pos_edge.specs.Frame.{ChangesOnly, Nothing, NameOf, SameFaults, SameFaultsBut}
+use Rattle.pos_edge.specs.Frame.{Nothing, NameOf, SameFaults, SameFaultsBut}
 use Rattle.pos_edge.specs.ScratchNames.{ScratchState, scratch_name, with_file}
 use Rattle.pos_edge.specs.ScratchWork.{IsNameBetween, IsScratchWork, IsScratchDone}
 use Rattle.pos_edge.specs.declared.scratch.ScratchDamage.{ScratchDamage}
 use Rattle.pos_edge.specs.declared.scratch.WorkFault.{WorkFault}
-use Rattle.pos_edge.specs.declared.scratch.WorkFault.TheVariants.{DiskFailed, Exists, Scratch, Memory}
+use Rattle.pos_edge.specs.declared.scratch.WorkFault.TheVariants.{DiskFailed, Exists, Scratch}
 use Rattle.pos_edge.proofs.ScratchWorkLemmas.{done_beside, done_then, name_is_there, work_beside, work_then}
 use Rattle.pos_runs.specs.Pages.{ListPages}
-use Rattle.pos_runs.specs.Lists.{IsPageFault, ListKept, SameListFile}
+use Rattle.pos_runs.specs.Lists.{IsPageFault, ListKept}
 use Rattle.pos_forward.specs.Storing.{IsNameOfTwo, IsOneOfTwo, AreKept, AreListWrites, AreNewLists, AreSealedBoth, AreStored, AreTwoFiles, HaveMore, IsWorkAnswer}
 use Rattle.pos_forward.proofs.WorkLemmas.{answer_err, answer_then}
 

@@ -1,16 +1,15 @@
 -- Work on scratch files and its answers, one piece after another.
-use Rattle.std.proofs.Common.{◌≡◌, ℕ, ◌+◌, ◌≤◌, ◌<◌, ◌^◌, Bool, true, false, List, Result, Ok, Err, None, refl, sym, ap, ◌∙◌, subst, arith}
+use Rattle.std.proofs.Common.{◌≡◌, ℕ, ◌+◌, ◌≤◌, ◌<◌, ◌^◌, true, false, List, Result, Ok, Err, sym, ap, ◌∙◌, subst, arith}
 use Rattle.std.specs.Prelude.{IsErrOf, IsSome}
 use Rattle.std.proofs.Common.{Option}
-use Rattle.pos_edge.specs.Faults.{Rose}
-use Rattle.pos_edge.specs.View.{View, IsDisk}
+use Rattle.pos_edge.specs.View.{View}
 use Rattle.pos_edge.specs.Frame.{ChangesOnly, Nothing, Just, SameFaults, SameFaultsBut, IsUntouched}
 use Rattle.pos_edge.specs.Calls.{WasThere, IsHalfCreated}
 use Rattle.pos_edge.specs.ScratchNames.{ScratchState, scratch_name, next_name, with_file}
-use Rattle.pos_edge.specs.ScratchWork.{IsNameBetween, IsScratchWork, IsScratchDone}
+use Rattle.pos_edge.specs.ScratchWork.{IsNameBetween, IsScratchDone}
 use Rattle.pos_edge.specs.declared.scratch.ScratchDamage.{ScratchDamage}
 use Rattle.pos_edge.specs.declared.scratch.WorkFault.{WorkFault}
-use Rattle.pos_edge.specs.declared.scratch.WorkFault.TheVariants.{DiskFailed, Exists, Scratch, Memory}
+use Rattle.pos_edge.specs.declared.scratch.WorkFault.TheVariants.{DiskFailed, Exists, Scratch}
 use Rattle.std.proofs.lemmas.Bool.{true≢false}
 use Rattle.pos_edge.proofs.Frames.{frame_wider}
 use Rattle.pos_edge.proofs.FaultLemmas.{Rose-since, faults_then}
@@ -75,3 +74,16 @@ new_frame s t file a b made done =
     let one : t.made ≡ s.made + 1 = ap (λ (z : ScratchState). z.made) made in
     frame_wider (Just (next_name s)) (IsNameBetween s.base s.made t.made) Nothing Nothing a b
     (λ n (m, low, high, is). is ∙ ap (scratch_name s.base) (let e : m ≡ s.made = omega arith in e)) (λ f l x. x) done.kept
+
+-- how many files two calls made
+pub made_few : (s t : ScratchState) → t.made ≡ s.made → t.made ≤ s.made + 2
+made_few s t same = omega arith
+
+pub one_then : (s t u : ScratchState) → t.made ≡ s.made + 1 → u.made ≡ t.made → u.made ≤ s.made + 2
+one_then s t u one same = omega arith
+
+pub two_made : (s t u : ScratchState) → t.made ≡ s.made + 1 → u.made ≡ t.made + 1 → u.made ≤ s.made + 2
+two_made s t u one two = omega arith
+
+pub most_then : (s t u : ScratchState) → t.made ≡ s.made → u.made ≤ t.made + 2 → u.made ≤ s.made + 2
+most_then s t u same two = omega arith

@@ -6,3 +6,6 @@ pub mod Matched
 pub mod Storing
 pub mod Stored
 pub mod Gathering
+pub mod SevenTables
+pub mod NextTables
+pub mod TablesSoFar

@@ -1,5 +1,5 @@
 -- Two lists on pages that are written side by side: a row's record for the tables, and one for the next table's making.
-use Rattle.std.specs.Prelude.{ℕ, ◌+◌, ◌≡◌, ◌≢◌, ◌<◌, ◌^◌, ◌⊎◌, Bool, false, List, [], ◌++◌, length, true, Result, IsErrOf}
+use Rattle.std.specs.Prelude.{ℕ, ◌+◌, ◌≡◌, ◌≢◌, ◌⊎◌, Bool, false, List, [], ◌++◌, length, true, Result, IsErrOf}
 use Rattle.pos_edge.specs.View.{View}
 use Rattle.pos_edge.specs.Frame.{ChangesOnly, KeepsIds, NameOf, Nothing, SameFaultsBut}
 use Rattle.pos_runs.specs.Pages.{ListPages, ListStands}

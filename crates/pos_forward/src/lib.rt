@@ -12,9 +12,12 @@ mod drafts;
 mod entries;
 mod faults;
 mod first;
+mod further;
 mod gather;
 mod kinds;
+mod levels;
 mod matcher;
+mod seven;
 mod store;
 mod waiting;
 
@@ -24,6 +27,7 @@ pub use faults::ForwardFault;
 pub use first::first_table;
 pub use matcher::{MatchFault, Matcher};
 use pos_bits::Memory;
+pub use seven::forward;
 
 // Appends an item; the only error is want of memory.
 #[inline(always)]
@@ -36,5 +40,7 @@ fn push<T: Copy>(items: &mut Vec<T>, item: T) -> Result<(), Memory>
     Ok(())
 }
 
+#[cfg(test)]
+mod forward_tests;
 #[cfg(test)]
 mod tests;

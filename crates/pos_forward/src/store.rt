@@ -29,6 +29,7 @@ pub(crate) fn store<D: Disk, X, R: Record<K> + MadeOf<X>, S: Record<K> + MadeOf<
         scratch.old scratch.new (D.view disk.old) (D.view disk.new) }
     ensures done { OnOk result (IsScratchDone (IsNameBetween scratch.old.base scratch.old.made scratch.new.made) Nothing
         scratch.old scratch.new (D.view disk.old) (D.view disk.new)) }
+    ensures most { scratch.new.made ≤ scratch.old.made + 2 }
     ensures answer { IsWorkAnswer result scratch.old scratch.new (D.view disk.old) (D.view disk.new) }
     ensures stored { IfOk result (λ made. AreStored R.read R.bit_count S.read S.bit_count scratch.old scratch.new
         made.0 made.1 (map R.made_of rows.now) (map S.made_of rows.now) (D.view disk.old) (D.view disk.new)) }
@@ -51,6 +52,7 @@ fn make_two<D: Disk, R: Record<K>, S: Record<K>, const K: u32>(
         scratch.old scratch.new (D.view disk.old) (D.view disk.new) }
     ensures done { OnOk result (IsScratchDone (IsNameBetween scratch.old.base scratch.old.made scratch.new.made) Nothing
         scratch.old scratch.new (D.view disk.old) (D.view disk.new)) }
+    ensures most { scratch.new.made ≤ scratch.old.made + 2 }
     ensures answer { IsWorkAnswer result scratch.old scratch.new (D.view disk.old) (D.view disk.new) }
     ensures lists { IfOk result (λ made. AreNewLists R.read R.bit_count S.read S.bit_count scratch.old scratch.new
         made.0 made.1 (D.view disk.old) (D.view disk.new)) }

@@ -1,9 +1,9 @@
-use Rattle.std.proofs.Common.{◌≡◌, ◌+◌, ◌-◌, ◌≤◌, refl, sym, ap, subst, ◌∙◌, arith}
+use Rattle.std.proofs.Common.{◌≡◌, ◌-◌, ◌≤◌, refl, sym, subst, ◌∙◌, arith}
 use Rattle.std.proofs.lemmas.Result.{err_from_is_err_and, on_ok_weaker}
 use Rattle.pos_forward.specs.Eights.{CountsEights}
 use Rattle.pos_tuple.specs.Node.{IsEntry}
 use Rattle.std.proofs.lemmas.List.Elements.{All-weaker}
-use Rattle.pos_forward.specs.Matched.{IsMatched, IsOverfull}
+use Rattle.pos_forward.specs.Matched.{IsOverfull}
 use Rattle.pos_forward.proofs.GatheringLemmas.{answer_last, answer_match, answer_read, gathering_all, gathering_more, gathering_none, read_then}
 use Rattle.pos_forward.proofs.gather.gather.Goals as goal
 

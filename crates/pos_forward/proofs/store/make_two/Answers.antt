@@ -1,9 +1,9 @@
-use Rattle.std.proofs.Common.{◌≡◌, ◌+◌, ◌≤◌, ap, arith}
+use Rattle.std.proofs.Common.{ap, arith}
 use Rattle.std.proofs.lemmas.Result.{err_from_is_err_and}
 use Rattle.pos_edge.specs.ScratchNames.{ScratchState}
 use Rattle.pos_edge.proofs.ScratchWorkLemmas.{between_done, between_then}
 use Rattle.pos_forward.proofs.StoreLemmas.{new_both}
-use Rattle.pos_forward.proofs.WorkLemmas.{answer_err, answer_new, answer_then, answer_ok, new_frame}
+use Rattle.pos_forward.proofs.WorkLemmas.{answer_err, answer_new, answer_then, made_few, new_frame, one_then, two_made}
 use Rattle.pos_forward.proofs.store.make_two.Goals as goal
 
 pub returns-in_err-second-clause-work : goal.returns-in_err-second-clause-work
@@ -44,3 +44,14 @@ returns-clause-lists g c =
     new_both g.R.Record.read g.R.Record.bit_count g.S.Record.read g.S.Record.bit_count c.args.scratch.now c.new.new.scratch c.new-2.new.scratch c.in_ok-first.first c.in_ok-second.second
     (g.D.Disk.view c.args.disk.now) (g.D.Disk.view c.new.new.disk) (g.D.Disk.view c.new-2.new.disk) (g.met.D.Disk.is_disk c.args.disk.now) (g.met.D.Disk.is_disk c.new.new.disk) c.requires.files
     first.ok first.made first.stands first.list (new_frame _ _ _ _ _ second.made second.done) second.ok second.made second.stands second.list first.done.kept
+
+pub returns-in_err-first-clause-most : goal.returns-in_err-first-clause-most
+returns-in_err-first-clause-most g c = made_few c.args.scratch.now c.new.new.scratch (ap (λ (z : ScratchState). z.made) c.in_err-first.ensures.refused)
+
+pub returns-in_err-second-clause-most : goal.returns-in_err-second-clause-most
+returns-in_err-second-clause-most g c =
+    one_then c.args.scratch.now c.new.new.scratch c.new-2.new.scratch (ap (λ (z : ScratchState). z.made) c.in_ok-first.ensures.made) (ap (λ (z : ScratchState). z.made) c.in_err-second.ensures.refused)
+
+pub returns-clause-most : goal.returns-clause-most
+returns-clause-most g c =
+    two_made c.args.scratch.now c.new.new.scratch c.new-2.new.scratch (ap (λ (z : ScratchState). z.made) c.in_ok-first.ensures.made) (ap (λ (z : ScratchState). z.made) c.in_ok-second.ensures.made)

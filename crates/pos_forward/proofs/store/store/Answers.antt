@@ -1,4 +1,4 @@
-use Rattle.std.proofs.Common.{map, [], arith}
+use Rattle.std.proofs.Common.{map, []}
 use Rattle.std.proofs.lemmas.Result.{err_from_is_err_and}
 use Rattle.pos_forward.proofs.WayLemmas.{way_answer, way_new, way_pushed, way_sealed, way_stored, way_work}
 use Rattle.pos_forward.proofs.WorkLemmas.{answer_err}
