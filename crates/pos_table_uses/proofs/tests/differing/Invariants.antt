@@ -1,0 +1,12 @@
+use Rattle.std.proofs.Common.{◌≡◌, ◌≤◌, ℕ, Bool, length}
+use Rattle.pos_marks.specs.Marks.{AreSealed, Marked, place_count}
+use Rattle.pos_table_uses.proofs.tests.differing.Given as goal
+
+-- the marks can be read, and no more places differ than were asked
+abbrev pub invariant-loop-i : goal.invariant-loop-i
+invariant-loop-i g l = record {
+  stands : (p : ℕ → Bool) × Marked l.marks p (g.D.Disk.view l.disk);
+  sealed : AreSealed l.marks;
+  places : place_count l.marks ≡ length l.named;
+  few : l.differing ≤ l.i;
+}
