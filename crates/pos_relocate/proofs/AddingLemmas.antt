@@ -1,15 +1,13 @@
 -- Sorted points added to the open table one after another.
-use Rattle.std.proofs.Common.{◌≡◌, ℕ, zero, suc, ◌+◌, ◌-◌, ◌*◌, ◌^◌, ◌<◌, ◌≤◌, true, List, [], ◌∷◌, ◌++◌, length, map, take, get_or, slice_index, slice_index_or, AllPairs, Result, Ok, Err, sym, refl, ◌∙◌, ap, subst, inl, inr, arith}
+use Rattle.std.proofs.Common.{◌≡◌, ℕ, ◌+◌, ◌-◌, ◌*◌, ◌^◌, ◌<◌, ◌≤◌, List, [], ◌∷◌, ◌++◌, length, map, take, slice_index_or, AllPairs, Ok, sym, refl, ◌∙◌, ap, subst, inl, inr, arith}
 use Rattle.std.specs.List.Sorted.{IsNonDecreasingBy}
 use Rattle.std.proofs.Math.Seq.{take-length}
 use Rattle.std.proofs.lemmas.Bool.{cases_eq, cases_lt}
 use Rattle.std.proofs.lemmas.List.{get_or-map, get_or_default, length-map, take_more}
 use Rattle.std.proofs.lemmas.List.Sorted.{IsPermutation-refl}
 use Rattle.pos_edge.specs.declared.scratch.ScratchDamage.{ScratchDamage}
-use Rattle.pos_edge.specs.declared.scratch.WorkFault.{WorkFault}
 use Rattle.pos_edge.specs.View.{View}
 use Rattle.pos_edge.specs.Frame.{SameFaults}
-use Rattle.pos_lists.specs.Numbering.{IsRepeated}
 use Rattle.pos_lists.specs.Rank.{first_in, second_in}
 use Rattle.pos_laws.specs.Renumbering.{firsts}
 use Rattle.pos_laws.proofs.Ranks.{length-firsts, at-firsts}
@@ -18,8 +16,7 @@ use Rattle.pos_layout.specs.Images.{IsShut}
 use Rattle.pos_layout.specs.Drafts.{Draft, WriterState, Stands, draft_bytes, added}
 use Rattle.pos_layout.specs.Writing.{Works, WritesOnly, IsStanding, Goes, MayAdd, SameFile, OneMore, with_numbers}
 use Rattle.pos_layout.proofs.WorksLemmas.{works_only, writes_none, writes_then, with_numbers-none, with_numbers-append}
-use Rattle.pos_relocate.specs.Passes.{HasEmptyTable, IsPass, IsRepetition}
-use Rattle.pos_relocate.proofs.PassLemmas.{works_pass, pass_then}
+use Rattle.pos_relocate.specs.Passes.{HasEmptyTable, IsRepetition}
 
 -- the first i points were added, the next may be `least` or above
 pub record AddedSoFar (size i least : ℕ) (xs : List (ℕ × ℕ)) (before after : WriterState) (old new : View) : Type 0 where

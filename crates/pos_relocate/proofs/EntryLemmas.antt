@@ -1,11 +1,11 @@
 -- Entries in memory: listed, sorted, and their new places.
-use Rattle.std.proofs.Common.{◌≡◌, ◌≢◌, ℕ, zero, suc, ◌+◌, ◌-◌, ◌<◌, ◌≤◌, List, length, map, take, get_or, slice_index, slice_index_or, slice_set, AllPairs, Contains, sym, refl, ◌∙◌, ap, subst, inl, inr, arith, get_or-set_same, get_or-set_other, Vec, Global}
+use Rattle.std.proofs.Common.{◌≡◌, ◌≢◌, ℕ, zero, suc, ◌+◌, ◌-◌, ◌<◌, ◌≤◌, List, length, map, get_or, slice_index, slice_index_or, slice_set, sym, refl, ◌∙◌, ap, subst, inl, inr, arith, get_or-set_same, get_or-set_other, Vec, Global}
 use Rattle.std.specs.List.{swap}
-use Rattle.std.specs.List.Sorted.{IsPermutation, IsNonDecreasingBy}
+use Rattle.std.specs.List.Sorted.{IsPermutation}
 use Rattle.std.proofs.Math.ListN.{length-set}
 use Rattle.std.proofs.lemmas.Bool.{cases_eq, cases_lt}
 use Rattle.std.proofs.lemmas.List.{get_or_default, get_or-map, length-map, with_items_is}
-use Rattle.std.proofs.lemmas.List.Edits.{Swapped, swapped_from_swap, length-swap}
+use Rattle.std.proofs.lemmas.List.Edits.{swapped_from_swap, length-swap}
 use Rattle.std.proofs.lemmas.List.Sorted.{IsPermutation-keeps, IsPermutation-map, IsPermutation-sym, IsPermutation-trans, Contains-permutation, length_permutation}
 use Rattle.std.specs.Vec.{with_items}
 use Rattle.pos_edge.specs.declared.scratch.ScratchDamage.{ScratchDamage}

@@ -1,10 +1,10 @@
 -- The entries of a table gathered one after another.
-use Rattle.std.proofs.Common.{◌≡◌, ℕ, suc, ◌+◌, ◌-◌, ◌*◌, ◌^◌, ◌<◌, ◌≤◌, Bool, true, List, [], length, Result, Ok, Err, refl, sym, ap, ◌∙◌, subst, inl, inr, arith}
+use Rattle.std.proofs.Common.{◌≡◌, ℕ, suc, ◌+◌, ◌-◌, ◌*◌, ◌^◌, ◌<◌, Bool, true, List, [], length, refl, sym, ap, ◌∙◌, subst, inl, inr, arith}
 use Rattle.std.specs.Prelude.{slice_index}
 use Rattle.pos_edge.specs.declared.scratch.ScratchDamage.{ScratchDamage}
 use Rattle.pos_edge.specs.View.{View}
 use Rattle.pos_edge.specs.Frame.{ReadsOnly, SameFaults}
-use Rattle.pos_lists.specs.TableLists.{TableLists, entries}
+use Rattle.pos_lists.specs.TableLists.{TableLists}
 use Rattle.pos_lists.specs.Numbering.{AreGathered}
 use Rattle.pos_lists.proofs.NumberingLemmas.{nothing_is_gathered}
 use Rattle.pos_laws.specs.Renumbering.{point_at}

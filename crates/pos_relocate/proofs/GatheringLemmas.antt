@@ -1,9 +1,9 @@
 -- Work that only reads, and the tables through it.
-use Rattle.std.proofs.Common.{◌≡◌, ◌≢◌, ℕ, suc, ◌+◌, ◌-◌, ◌*◌, ◌/◌, ◌^◌, ◌<◌, ◌≤◌, Bool, true, false, List, [], ◌∷◌, ◌++◌, length, map, get_or, Option, Some, Result, Ok, Err, refl, sym, ap, ◌∙◌, subst, inl, inr, arith, get_or-set_same, get_or-set_other}
-use Rattle.std.specs.Prelude.{IsErrOf, slice_get, slice_set, slice_index, AllPairs}
+use Rattle.std.proofs.Common.{◌≡◌, ℕ, suc, ◌+◌, ◌<◌, Bool, true, false, List, [], ◌∷◌, ◌++◌, length, map, get_or, Result, Ok, Err, refl, sym, ap, ◌∙◌, subst, inl, inr, arith, get_or-set_same, get_or-set_other}
+use Rattle.std.specs.Prelude.{IsErrOf, slice_set}
 use Rattle.std.proofs.lemmas.Bool.{cases_eq, cases_lt}
 use Rattle.std.proofs.lemmas.List.{get_or_default, map-append}
-use Rattle.std.proofs.Math.ListN.{get_or-append, length-set}
+use Rattle.std.proofs.Math.ListN.{get_or-append}
 use Rattle.std.proofs.Math.Seq.{get_or-append_seam}
 use Rattle.std.proofs.Common.{length-append}
 use Rattle.pos_edge.specs.declared.scratch.ScratchDamage.{ScratchDamage}
@@ -15,7 +15,6 @@ use Rattle.pos_edge.specs.Frame.{ReadsOnly, SameFaults, Nothing}
 use Rattle.pos_edge.proofs.FaultLemmas.{Rose-since, faults_then}
 use Rattle.pos_edge.proofs.Frames.{frame_none, frame_then}
 use Rattle.pos_lists.specs.TableLists.{TableLists}
-use Rattle.pos_lists.specs.Rank.{first_in, second_in}
 use Rattle.pos_lists.specs.Numbering.{AreGathered}
 use Rattle.pos_lists.proofs.NumberingLemmas.{a_place_is_gathered, a_place_is_passed_over}
 use Rattle.pos_marks.proofs.MarkLemmas.{marked_reads}
@@ -25,7 +24,7 @@ use Rattle.pos_runs.specs.Runs.{TablesState, TablesStand, pages_at, no_pages}
 use Rattle.pos_runs.proofs.TablesLemmas.{tables-read}
 use Rattle.pos_relocate.specs.declared.chosen.Chosen.{Chosen}
 use Rattle.pos_relocate.specs.declared.chosen.Chosen.TheVariants.{Each, Those}
-use Rattle.pos_relocate.specs.Passes.{AreListed}
+use Rattle.pos_relocate.specs.Passes.{AreListed, IsOutOfRange}
 use Rattle.pos_relocate.specs.Choosing.{Chooses}
 use Rattle.pos_relocate.specs.Gathering.{CanPoint, IsPointing, SameTables}
 use Rattle.pos_relocate.proofs.PassLemmas.{ok_no_fault}
@@ -48,6 +47,7 @@ gathering_then r a b c first same p = record {
   failed = λ is. Rose-since a.faults b.faults c.faults first.kept.faults (p.failed is);
   quiet = faults_then DiskFailed r a b c same p.quiet;
   makes_none = p.makes_none;
+  range = p.range;
 }
 
 pub gathering_err : (X Y : Type 0) (e : WorkFault) (a b : View) → IsPointing {X = X} (Err e) a b → IsPointing {X = Y} (Err e) a b
@@ -56,6 +56,7 @@ gathering_err X Y e a b p = record {
   failed = λ is. let same : e ≡ DiskFailed = cc in p.failed (ap (λ f. Err f) same);
   quiet = p.quiet;
   makes_none = λ n is. let same : e ≡ Exists n = cc in p.makes_none n (ap (λ f. Err f) same);
+  range = λ d is. let same : e ≡ Scratch d = cc in p.range d (ap (λ f. Err f) same);
 }
 
 -- a fault that was passed on
@@ -69,15 +70,17 @@ gathering_done x a b only same = record {
   failed = λ is. absurd (ok_no_fault x DiskFailed is);
   quiet = same;
   makes_none = λ n is. ok_no_fault x (Exists n) is;
+  range = λ d is. absurd (ok_no_fault x (Scratch d) is);
 }
 
 -- damage, and want of memory
-pub gathering_damage : (X : Type 0) (d : ScratchDamage) (a b : View) → ReadsOnly a b → SameFaults a b → IsPointing {X = X} (Err (Scratch d)) a b
-gathering_damage X d a b only same = record {
+pub gathering_damage : (X : Type 0) (d : ScratchDamage) (a b : View) → IsOutOfRange d → ReadsOnly a b → SameFaults a b → IsPointing {X = X} (Err (Scratch d)) a b
+gathering_damage X d a b out only same = record {
   only = only;
   failed = λ is. absurd (let t : true ≡ true = refl in cc);
   quiet = λ other. same;
   makes_none = λ n is. cc;
+  range = λ x is. let one : d ≡ x = cc in subst IsOutOfRange one out;
 }
 
 pub gathering_memory : (X : Type 0) (a b : View) → ReadsOnly a b → SameFaults a b → IsPointing {X = X} (Err Memory) a b
@@ -86,6 +89,7 @@ gathering_memory X a b only same = record {
   failed = λ is. absurd (let t : true ≡ true = refl in cc);
   quiet = λ other. same;
   makes_none = λ n is. cc;
+  range = λ d is. cc;
 }
 
 -- the disk failed in a call that only reads
@@ -95,6 +99,7 @@ gathering_failed X a b only rose = record {
   failed = λ is. rose;
   quiet = λ other. absurd (other refl);
   makes_none = λ n is. cc;
+  range = λ d is. cc;
 }
 
 -- want of memory that was passed on

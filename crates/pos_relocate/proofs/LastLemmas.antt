@@ -1,5 +1,5 @@
 -- The numbers of table 7, one by one.
-use Rattle.std.proofs.Common.{◌≡◌, ℕ, suc, ◌+◌, ◌-◌, ◌*◌, ◌/◌, ◌%◌, ◌^◌, ◌<◌, ◌≤◌, Some, true, List, [], ◌∷◌, ◌++◌, length, map, refl, sym, ap, ◌∙◌, subst, arith, lit<}
+use Rattle.std.proofs.Common.{◌≡◌, ℕ, suc, ◌+◌, ◌*◌, ◌/◌, ◌%◌, ◌^◌, ◌<◌, ◌≤◌, Some, true, List, [], ◌∷◌, ◌++◌, length, map, refl, sym, ap, ◌∙◌, subst, inr, arith}
 use Rattle.std.specs.Prelude.{slice_get, slice_index}
 use Rattle.std.proofs.Math.Nat.{mul-le-mul_right}
 use Rattle.std.proofs.Math.Pow.{pow_mono}
@@ -14,7 +14,7 @@ use Rattle.pos_lists.specs.Numbering.{AreGathered}
 use Rattle.pos_lists.proofs.NumberingLemmas.{nothing_is_gathered}
 use Rattle.pos_laws.specs.Renumbering.{last_at}
 use Rattle.pos_runs.specs.Runs.{TablesState, TablesStand, pages_at}
-use Rattle.pos_relocate.specs.Passes.{AreListed}
+use Rattle.pos_relocate.specs.Passes.{AreListed, IsOutOfRange}
 use Rattle.pos_relocate.proofs.GatheringLemmas.{gathered_pushed, listed_none, listed_pushed, reads_none, reads_then, same_none, same_then}
 use Rattle.pos_relocate.proofs.ValuesLemmas.{entries_count}
 use Rattle.pos_lists.specs.PlotLists.{last_number}
@@ -84,6 +84,15 @@ last_above ts k i y file number damage size value great is_file is =
       limit = limit;
       above = omega arith;
     }
+
+-- its number is out of its range
+pub last_out : (k i y file : ℕ) (damage : ScratchDamage) → k ≤ 50 → 1 * 2 ^ k % 2 ^ 64 ≤ y / 64 → damage ≡ record { file = file; at = i; found = y; least = 0; limit = 1 * 2 ^ (k + 6) % 2 ^ 64 } → IsOutOfRange damage
+last_out k i y file damage size great is =
+    let found : damage.found ≡ y = ap (λ (d : ScratchDamage). d.found) is in
+    let limit : damage.limit ≡ 2 ^ (k + 6) = ap (λ (d : ScratchDamage). d.limit) is ∙ one_shl (k + 6) 64 (omega arith) in
+    let low = limit_is k size in
+    let power : 2 ^ (k + 6) ≡ 2 ^ k * 64 = pow-add 2 k 6 in
+    inr (omega arith)
 
 -- so a y of k + 6 bits is none
 pub last_not_above : (ts : TableLists) (k i file : ℕ) (damage : ScratchDamage) → IsLastAbove ts k i file damage → slice_index ts.last i < 2 ^ (k + 6) → ⊥

@@ -1,5 +1,5 @@
 -- The numbers of table 7 as a table.
-use Rattle.std.proofs.Common.{◌≡◌, ◌≢◌, ℕ, ◌+◌, ◌^◌, ◌<◌, ◌≤◌, true, List, length, slice_index, slice_index_or, AllPairs, Contains, Result, Ok, Err, sym, refl, ◌∙◌, ap, subst, arith}
+use Rattle.std.proofs.Common.{◌≡◌, ℕ, ◌+◌, ◌^◌, ◌<◌, true, List, length, slice_index, slice_index_or, AllPairs, Result, sym, refl, ◌∙◌, ap, arith}
 use Rattle.std.specs.List.Sorted.{IsPermutation}
 use Rattle.std.proofs.lemmas.List.{get_or_default}
 use Rattle.std.proofs.lemmas.List.Sorted.{Contains-permutation}
@@ -8,7 +8,7 @@ use Rattle.pos_edge.specs.declared.scratch.WorkFault.{WorkFault}
 use Rattle.pos_edge.specs.View.{View}
 use Rattle.pos_edge.specs.Frame.{ReadsOnly, Nothing}
 use Rattle.pos_lists.specs.TableLists.{TableLists, entries}
-use Rattle.pos_lists.specs.Rank.{first_in, second_in}
+use Rattle.pos_lists.specs.Rank.{second_in}
 use Rattle.pos_lists.specs.Numbering.{AreGathered}
 use Rattle.pos_laws.specs.Renumbering.{firsts, last_at, IsLastTable, IsOneToOne}
 use Rattle.pos_laws.proofs.Apart.{last_numbers_differ}
@@ -40,6 +40,7 @@ gathering_pass w r a b s g = record {
   failed = g.failed;
   quiet = g.quiet;
   makes_none = g.makes_none;
+  range = g.range;
 }
 
 -- ---- table 7

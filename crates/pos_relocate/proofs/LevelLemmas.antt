@@ -1,32 +1,32 @@
 -- The renumbering of one table: its files beside the writer's, what it gives, and what never comes over the tables of an id.
-use Rattle.std.proofs.Common.{◌≡◌, ◌≢◌, ℕ, suc, ◌+◌, ◌-◌, ◌*◌, ◌/◌, ◌^◌, ◌<◌, ◌≤◌, Bool, true, List, length, slice_index, Result, Ok, Err, sym, refl, ◌∙◌, ap, subst, inl, inr, arith}
+use Rattle.std.proofs.Common.{◌≡◌, ℕ, suc, ◌+◌, ◌-◌, ◌*◌, ◌/◌, ◌^◌, ◌<◌, ◌≤◌, Bool, true, List, slice_index, sym, refl, ◌∙◌, ap, subst, arith}
 use Rattle.std.proofs.Math.Nat.{mul-le-mul}
 use Rattle.std.proofs.Math.Pow.{pow_mono}
 use Rattle.pos_edge.specs.declared.scratch.ScratchDamage.{ScratchDamage}
-use Rattle.pos_edge.specs.declared.scratch.WorkFault.{WorkFault}
 use Rattle.pos_edge.specs.View.{View}
 use Rattle.pos_edge.specs.Frame.{Just, KeepsIds, NameOf, Nothing}
 use Rattle.pos_edge.specs.FileSets.{IsOutside}
-use Rattle.pos_lists.specs.TableLists.{TableLists, entries, left_of, right_of, PairsInside}
-use Rattle.pos_lists.specs.Used.{IsUsed, MarksUsed}
+use Rattle.pos_lists.specs.TableLists.{TableLists, entries, PairsInside}
+use Rattle.pos_lists.specs.Used.{MarksUsed}
+use Rattle.pos_lists.specs.Rank.{second_in}
 use Rattle.pos_lists.specs.Numbering.{AreGathered, AreNumbered}
-use Rattle.pos_laws.specs.Tables.{Describes}
 use Rattle.pos_laws.specs.Renumbering.{firsts, point_at, IsRenumbered, IsOneToOne}
-use Rattle.pos_laws.proofs.Apart.{pairs_differ, points_differ}
+use Rattle.pos_laws.proofs.Ranks.{length-firsts, at-firsts}
 use Rattle.pos_laws.proofs.Gathered.{gathered_is_renumbered}
 use Rattle.pos_layout.specs.Drafts.{WriterState}
 use Rattle.pos_layout.specs.Layouts.{own}
-use Rattle.pos_layout.specs.Writing.{Goes, IsStanding, WritesOnly, with_table}
+use Rattle.pos_layout.specs.Writing.{WritesOnly}
 use Rattle.pos_layout.proofs.WorksLemmas.{stands_beside}
 use Rattle.pos_edge.specs.Frame.{ReadsOnly}
 use Rattle.pos_runs.specs.Runs.{TablesState, TablesStand, IsTablesFile, pages_at}
 use Rattle.pos_runs.proofs.TablesLemmas.{tables-outside}
 use Rattle.pos_relocate.specs.declared.chosen.Chosen.{Chosen}
-use Rattle.pos_relocate.specs.Passes.{AreListed, IsRepetition, IsTableAdded}
+use Rattle.pos_relocate.specs.Passes.{AreListed, AreShuffled, IsRepetition, IsTableAdded}
 use Rattle.pos_relocate.specs.Choosing.{Chooses}
-use Rattle.pos_relocate.specs.Gathering.{CanPoint, SameTables, SomeHasNoPoint}
-use Rattle.pos_relocate.specs.Levels.{CanRenumber, IsLevelAdded}
-use Rattle.pos_relocate.proofs.SortedLemmas.{repeats_two}
+use Rattle.pos_relocate.specs.Gathering.{CanPoint, SameTables}
+use Rattle.pos_relocate.specs.Levels.{IsLevelAdded, IsPointTwice}
+use Rattle.pos_relocate.proofs.SortedLemmas.{sorted_one}
+use Rattle.pos_relocate.proofs.EntryLemmas.{shuffled_once}
 use Rattle.pos_relocate.proofs.ValuesLemmas.{entries_count}
 
 -- ---- the tables' files beside the writer's
@@ -107,38 +107,33 @@ level_added k t limit chosen below places xs tables before after a b c can only 
       (gathered ts p stands chooses told) table.numbered;
 }
 
--- ---- what never comes over the tables of an id
+-- ---- what is wrong
 
-marked_used : (ts : TableLists) (t i : ℕ) (p : ℕ → Bool) → 2 ≤ t → MarksUsed ts (t - 1) p → p i ≡ true → IsUsed ts (suc (t - 2)) i
-marked_used ts t i p first marks given =
-    let level : t - 1 ≡ suc (t - 2) = omega arith in
-    subst (λ (n : ℕ). IsUsed ts n i) level ((marks i).0 given)
-
--- every used pair has a point
-pub never_pointless : (ts : TableLists) (id : List ℕ) (k t limit : ℕ) (p : ℕ → Bool) (below : List ℕ) (tables : TablesState) (damage : ScratchDamage) → 2 ≤ t → t ≤ 7 → Describes ts id k → MarksUsed ts (t - 1) p
-    → IsOneToOne ts (t - 2) (slice_index below) → length below ≡ entries ts (t - 2) → SomeHasNoPoint ts (t - 2) p limit below tables damage → ⊥
-never_pointless ts id k t limit p below tables damage first last described marks apart long h =
-    let n = t - 2 in
-    let inside = described.inside n h.0 (omega arith) h.1 in
-    let left = inside.0 in
-    let right = inside.1 in
-    elim h.3 [
-      | inl outside ↦
-          let above = outside.above in
-          let limit_is = outside.limit in
-          elim outside.found [
-            | inl e ↦ absurd (omega arith)
-            | inr e ↦ absurd (omega arith)
-          ]
-      | inr one ↦
-          let used = marked_used ts t h.0 p first marks h.2 in
-          pairs_differ ts id k n (slice_index below) h.0 described (omega arith) apart used (one.same ∙ (one.found ∙ ap (slice_index below) one.place))
-    ]
-
--- and no two of them have the same
-pub never_repeated : (ts : TableLists) (id : List ℕ) (k t count bound : ℕ) (p : ℕ → Bool) (below : List ℕ) (xs : List (ℕ × ℕ)) (file limit : ℕ) (damage : ScratchDamage) → 2 ≤ t → t ≤ 7 → Describes ts id k
-    → MarksUsed ts (t - 1) p → IsOneToOne ts (t - 2) (slice_index below) → AreListed count bound xs → AreGathered p (point_at ts (t - 2) (slice_index below)) count xs → IsRepetition file limit xs damage → ⊥
-never_repeated ts id k t count bound p below xs file limit damage first last described marks apart listed g r =
-    let two = repeats_two p (point_at ts (t - 2) (slice_index below)) count bound xs file limit damage listed g r in
-    points_differ ts id k (t - 2) (slice_index below) two.0 two.1 described (omega arith) apart
-    (marked_used ts t two.0 p first marks two.2.marked_first) (marked_used ts t two.1 p first marks two.2.marked_second) two.2.differ two.2.same
+-- a repetition is of two numbered entries
+pub point_twice : (ts : TableLists) (k n count bound : ℕ) (p : ℕ → Bool) (below : List ℕ) (xs : List (ℕ × ℕ)) (file number : ℕ) (damage : ScratchDamage) → entries ts (suc n) ≡ count → AreListed count bound xs
+    → AreGathered p (point_at ts n (slice_index below)) count xs → IsRepetition file (2 ^ (2 * k + 2)) xs damage → file ≡ number → IsPointTwice ts k n (λ i. p i ≡ true) (slice_index below) number damage
+point_twice ts k n count bound p below xs file number damage is listed g r is_file =
+    let point = point_at ts n (slice_index below) in
+    let pointed = r.pointed in
+    let at = r.at in
+    let rep = r.repeated in
+    let after = rep.after in
+    let inside = rep.inside in
+    let len = length-firsts pointed in
+    let shuffled : AreShuffled count pointed = record { gathered = xs; bound = bound; listed = listed; permuted = r.permuted } in
+    let one = sorted_one p point count xs pointed g r.permuted at (omega arith) in
+    let other = sorted_one p point count xs pointed g r.permuted (at - 1) (omega arith) in
+    let a = at-firsts pointed at 0 (omega arith) in
+    let b = at-firsts pointed (at - 1) 0 (omega arith) in
+    let found : damage.found ≡ point damage.at = r.found ∙ (one.points ∙ ap point (sym r.place)) in record {
+      other = second_in pointed (at - 1);
+      differ = λ e. let same = shuffled_once count pointed shuffled (at - 1) at (omega arith) (omega arith) (e ∙ r.place) in absurd (omega arith);
+      other_has = other.only;
+      place_has = subst (λ (i : ℕ). p i ≡ true) (sym r.place) one.only;
+      inside = subst (λ (i : ℕ). i < entries ts (suc n)) (sym r.place) (subst (λ (m : ℕ). second_in pointed at < m) (sym is) one.below);
+      found = found;
+      same = sym other.points ∙ (sym b ∙ (sym rep.same ∙ (a ∙ sym r.found)));
+      file_is = r.file_is ∙ is_file;
+      least = r.least;
+      limit = r.limit;
+    }

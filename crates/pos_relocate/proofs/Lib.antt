@@ -9,3 +9,4 @@ pub mod LastLemmas
 pub mod SortedLemmas
 pub mod LastTableLemmas
 pub mod LevelLemmas
+pub mod LevelsLemmas

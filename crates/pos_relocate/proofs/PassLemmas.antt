@@ -1,20 +1,19 @@
 -- Passes one after another, and what of them leaves the writer's file alone.
-use Rattle.std.proofs.Common.{◌≡◌, ℕ, ◌≤◌, true, List, [], ◌∷◌, ◌++◌, length, Option, Some, Result, Ok, Err, refl, sym, ap, ◌∙◌, subst, arith}
-use Rattle.std.specs.Prelude.{is_ok, IfOk, IsErrOf}
+use Rattle.std.proofs.Common.{◌≡◌, ℕ, true, List, Result, Ok, Err, refl, sym, ap, ◌∙◌, subst, arith}
+use Rattle.std.specs.Prelude.{is_ok, IfOk, IsErrOf, OnOk}
 use Rattle.std.proofs.lemmas.Bool.{true≢false}
 use Rattle.pos_edge.specs.declared.scratch.ScratchDamage.{ScratchDamage}
 use Rattle.pos_edge.specs.declared.scratch.WorkFault.{WorkFault}
 use Rattle.pos_edge.specs.declared.scratch.WorkFault.TheVariants.{DiskFailed, Exists, Memory, Scratch}
 use Rattle.pos_edge.specs.View.{View}
-use Rattle.pos_edge.specs.Faults.{Rose}
-use Rattle.pos_edge.specs.Frame.{ChangesFile, ReadsOnly, SameFaults, Nothing, Just, NameOf}
+use Rattle.pos_edge.specs.Frame.{ReadsOnly, SameFaults, Nothing, Just, NameOf}
 use Rattle.pos_edge.proofs.FaultLemmas.{Rose-since, faults_then}
 use Rattle.pos_edge.proofs.Frames.{frame_wider}
 use Rattle.pos_layout.specs.Images.{IsShut, HoldsShut}
 use Rattle.pos_layout.specs.Drafts.{IsWriteFault}
 use Rattle.pos_layout.specs.Writing.{Works, WritesOnly}
-use Rattle.pos_layout.proofs.WorksLemmas.{works_only, writes_none, writes_then, shut_beside}
-use Rattle.pos_relocate.specs.Passes.{IsPass}
+use Rattle.pos_layout.proofs.WorksLemmas.{works_only, writes_then, shut_beside}
+use Rattle.pos_relocate.specs.Passes.{IsOutOfRange, IsPass}
 
 -- an answer that is Ok is no fault
 pub ok_no_fault : {X : Type 0} (x : X) (e : WorkFault) → IsErrOf (Ok x) e → ⊥
@@ -25,6 +24,10 @@ pub if_ok : {X : Type 0} (P Q : X → Type 0) (r : Result X WorkFault) → ((x :
 if_ok P Q (Ok x) f h = f x h
 if_ok P Q (Err e) f h = tt
 
+pub on_ok : {X : Type 0} (P Q : Type 0) (r : Result X WorkFault) → (P → Q) → OnOk r P → OnOk r Q
+on_ok P Q (Ok x) f h = f h
+on_ok P Q (Err e) f h = tt
+
 -- a call of the writer is a pass
 pub works_pass : {X : Type 0} (file : ℕ) (r : Result X WorkFault) (a b : View) → Works IsShut file r a b → IsPass file r a b
 works_pass file (Ok x) a b w = record {
@@ -32,12 +35,14 @@ works_pass file (Ok x) a b w = record {
   failed = w.failed;
   quiet = w.quiet;
   makes_none = λ n is. ok_no_fault x (Exists n) is;
+  range = λ d is. absurd (ok_no_fault x (Scratch d) is);
 }
 works_pass file (Err e) a b w = record {
   writes = works_only file (Err e) a b w;
   failed = w.failed;
   quiet = w.quiet;
   makes_none = λ n is. let same : e ≡ Exists n = cc in subst IsWriteFault same w.fault;
+  range = λ d is. let same : e ≡ Scratch d = cc in absurd (subst IsWriteFault same w.fault);
 }
 
 -- a pass after work that went well
@@ -48,6 +53,7 @@ pass_then file r a b c live first same p = record {
   failed = λ is. Rose-since a.faults b.faults c.faults first.kept.frame.faults (p.failed is);
   quiet = faults_then DiskFailed r a b c same p.quiet;
   makes_none = p.makes_none;
+  range = p.range;
 }
 
 -- the same fault of a call with another value
@@ -57,6 +63,7 @@ pass_err X Y file e a b p = record {
   failed = λ is. let same : e ≡ DiskFailed = cc in p.failed (ap (λ f. Err f) same);
   quiet = p.quiet;
   makes_none = λ n is. let same : e ≡ Exists n = cc in p.makes_none n (ap (λ f. Err f) same);
+  range = λ d is. let same : e ≡ Scratch d = cc in p.range d (ap (λ f. Err f) same);
 }
 
 -- a fault that was passed on
@@ -72,15 +79,17 @@ pass_done file x a b writes same = record {
   failed = λ is. absurd (ok_no_fault x DiskFailed is);
   quiet = same;
   makes_none = λ n is. ok_no_fault x (Exists n) is;
+  range = λ d is. absurd (ok_no_fault x (Scratch d) is);
 }
 
 -- damage, and want of memory
-pub pass_damage : (X : Type 0) (file : ℕ) (d : ScratchDamage) (a b : View) → WritesOnly file a b → SameFaults a b → IsPass {X = X} file (Err (Scratch d)) a b
-pass_damage X file d a b writes same = record {
+pub pass_damage : (X : Type 0) (file : ℕ) (d : ScratchDamage) (a b : View) → IsOutOfRange d → WritesOnly file a b → SameFaults a b → IsPass {X = X} file (Err (Scratch d)) a b
+pass_damage X file d a b out writes same = record {
   writes = writes;
   failed = λ is. absurd (let t : true ≡ true = refl in cc);
   quiet = λ other. same;
   makes_none = λ n is. cc;
+  range = λ x is. let one : d ≡ x = cc in subst IsOutOfRange one out;
 }
 
 pub pass_memory : (X : Type 0) (file : ℕ) (a b : View) → WritesOnly file a b → SameFaults a b → IsPass {X = X} file (Err Memory) a b
@@ -89,6 +98,7 @@ pass_memory X file a b writes same = record {
   failed = λ is. absurd (let t : true ≡ true = refl in cc);
   quiet = λ other. same;
   makes_none = λ n is. cc;
+  range = λ d is. cc;
 }
 
 -- reads of any file leave the writer's file

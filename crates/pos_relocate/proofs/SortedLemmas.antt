@@ -1,12 +1,11 @@
 -- Gathered entries after they were sorted: each stands behind its point, and a repetition is of two entries.
-use Rattle.std.proofs.Common.{◌≡◌, ◌≢◌, ℕ, ◌+◌, ◌-◌, ◌<◌, ◌≤◌, Bool, true, List, length, slice_index, slice_index_or, AllPairs, Contains, sym, refl, ◌∙◌, ap, subst, arith}
+use Rattle.std.proofs.Common.{◌≡◌, ◌≢◌, ℕ, ◌-◌, ◌<◌, Bool, true, List, length, slice_index_or, sym, ◌∙◌, ap, subst, arith}
 use Rattle.std.specs.List.Sorted.{IsPermutation}
 use Rattle.std.proofs.lemmas.List.{get_or_default}
 use Rattle.std.proofs.lemmas.List.Sorted.{IsPermutation-sym, Contains-permutation}
 use Rattle.pos_edge.specs.declared.scratch.ScratchDamage.{ScratchDamage}
 use Rattle.pos_lists.specs.Rank.{first_in, second_in}
 use Rattle.pos_lists.specs.Numbering.{AreGathered}
-use Rattle.pos_laws.specs.Renumbering.{firsts}
 use Rattle.pos_laws.proofs.Ranks.{length-firsts, at-firsts}
 use Rattle.pos_relocate.specs.Passes.{AreListed, AreShuffled, IsRepetition}
 use Rattle.pos_relocate.proofs.EntryLemmas.{shuffled_once}

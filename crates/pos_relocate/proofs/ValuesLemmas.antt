@@ -1,5 +1,5 @@
 -- The values of table 1 read one after another; and how many entries a table has.
-use Rattle.std.proofs.Common.{◌≡◌, ℕ, zero, suc, ◌+◌, ◌^◌, ◌<◌, ◌≤◌, true, List, [], ◌∷◌, ◌++◌, length, map, take, get_or, Some, refl, sym, ap, ◌∙◌, subst, inl, inr, arith}
+use Rattle.std.proofs.Common.{◌≡◌, ℕ, zero, suc, ◌+◌, ◌^◌, ◌<◌, ◌≤◌, true, List, [], ◌∷◌, ◌++◌, length, take, get_or, Some, refl, sym, ap, ◌∙◌, inl, inr, arith}
 use Rattle.std.specs.Prelude.{slice_get, slice_index}
 use Rattle.std.proofs.lemmas.Bool.{cases_lt}
 use Rattle.std.proofs.lemmas.List.{length-map, take_all, take_more}
@@ -12,7 +12,6 @@ use Rattle.pos_edge.specs.Frame.{ReadsOnly, SameFaults}
 use Rattle.pos_lists.specs.TableLists.{TableLists, entries, pairs_of}
 use Rattle.pos_runs.specs.Lists.{IsListRead}
 use Rattle.pos_runs.specs.Runs.{TablesState, TablesStand, pages_at, value_record, pair_record}
-use Rattle.pos_runs.specs.Pages.{ListPages}
 use Rattle.std.specs.Prelude.{slice_set}
 use Rattle.pos_relocate.specs.Passes.{AreBelow}
 use Rattle.pos_relocate.specs.Gathering.{SameTables}

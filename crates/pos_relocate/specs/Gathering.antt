@@ -7,21 +7,23 @@ use Rattle.pos_edge.specs.View.{View}
 use Rattle.pos_edge.specs.Frame.{ReadsOnly, SameFaultsBut}
 use Rattle.pos_edge.specs.declared.scratch.ScratchDamage.{ScratchDamage}
 use Rattle.pos_edge.specs.declared.scratch.WorkFault.{WorkFault}
-use Rattle.pos_edge.specs.declared.scratch.WorkFault.TheVariants.{DiskFailed, Exists}
+use Rattle.pos_edge.specs.declared.scratch.WorkFault.TheVariants.{DiskFailed, Exists, Scratch}
 use Rattle.pos_lists.specs.TableLists.{TableLists, entries, left_of, right_of}
 use Rattle.pos_lists.specs.Used.{Names}
 use Rattle.pos_record.specs.Fields.{IsRecordSize}
 use Rattle.pos_runs.specs.Runs.{TablesState, TablesStand, pages_at}
-use Rattle.pos_relocate.specs.Passes.{AreBelow}
+use Rattle.pos_relocate.specs.Passes.{AreBelow, IsOutOfRange}
 
 -- ---- the disk and the tables
 
--- Work that only reads, whatever it answered: no file was changed or made. The count of faults tells whether the disk failed.
+-- Work that only reads, whatever it answered: no file was changed or made. The count of faults tells whether the disk failed,
+-- and damage is of a number out of its range.
 pub record IsPointing {X : Type 0} (result : Result X WorkFault) (old new : View) : Type 0 where
   pub only : ReadsOnly old new
   pub failed : IsErrOf result DiskFailed → Rose old.faults new.faults
   pub quiet : SameFaultsBut DiskFailed result old new
   pub makes_none : (number : ℕ) → IsErrOf result (Exists number) → ⊥
+  pub range : (damage : ScratchDamage) → IsErrOf result (Scratch damage) → IsOutOfRange damage
 
 -- the same tables, but for the pages that are in memory
 pub record SameTables (k : ℕ) (before after : TablesState) (old new : View) : Type 0 where

@@ -1,13 +1,14 @@
 -- What the renumbering of one table needs and does.
 -- Source: the Construction document, "compression" and "sort on line points".
 -- Levels count from 0 to 6, a run's tables from 1 to 7: table t has level t - 1, over the numbers of level t - 2.
-use Rattle.std.specs.Prelude.{◌≡◌, ℕ, ◌+◌, ◌-◌, ◌*◌, ◌/◌, ◌^◌, ◌≤◌, Bool, true, List, slice_index}
+use Rattle.std.specs.Prelude.{◌≡◌, ◌≢◌, ℕ, suc, ◌+◌, ◌-◌, ◌*◌, ◌/◌, ◌^◌, ◌<◌, ◌≤◌, Bool, true, List, slice_index}
 use Rattle.pos_edge.specs.View.{View}
 use Rattle.pos_edge.specs.Frame.{Just, NameOf}
 use Rattle.pos_edge.specs.FileSets.{IsOutside}
-use Rattle.pos_lists.specs.TableLists.{TableLists, PairsInside}
+use Rattle.pos_edge.specs.declared.scratch.ScratchDamage.{ScratchDamage}
+use Rattle.pos_lists.specs.TableLists.{TableLists, entries, PairsInside}
 use Rattle.pos_lists.specs.Used.{MarksUsed}
-use Rattle.pos_laws.specs.Renumbering.{IsRenumbered, IsOneToOne}
+use Rattle.pos_laws.specs.Renumbering.{point_at, IsRenumbered, IsOneToOne}
 use Rattle.pos_layout.specs.Drafts.{WriterState}
 use Rattle.pos_layout.specs.Writing.{Goes, IsStanding, with_table}
 use Rattle.pos_runs.specs.Runs.{TablesState, TablesStand, IsTablesFile, pages_at}
@@ -34,3 +35,17 @@ pub record IsLevelAdded (k t : ℕ) (chosen : Chosen) (below places : List ℕ) 
   pub renumbered : (ts : TableLists) (p : ℕ → Bool) → TablesStand k tables ts old → Chooses chosen (pages_at tables (t - 1)).count p old → old.tells ≡ true
       → PairsInside ts 6 → MarksUsed ts (t - 1) p
       → IsRenumbered ts (t - 2) (slice_index below) (slice_index places) points × IsOneToOne ts (t - 1) (slice_index places)
+
+-- Two different entries of level n + 1 with a property have one point over these numbers of level n: the damage names one of
+-- them in its file, with that point.
+pub record IsPointTwice (ts : TableLists) (k n : ℕ) (Has : ℕ → Type 0) (old : ℕ → ℕ) (file : ℕ) (damage : ScratchDamage) : Type 0 where
+  pub other : ℕ
+  pub differ : other ≢ damage.at
+  pub other_has : Has other
+  pub place_has : Has damage.at
+  pub inside : damage.at < entries ts (suc n)
+  pub found : damage.found ≡ point_at ts n old damage.at
+  pub same : point_at ts n old other ≡ damage.found
+  pub file_is : damage.file ≡ file
+  pub least : damage.least ≡ damage.found + 1
+  pub limit : damage.limit ≡ 2 ^ (2 * k + 2)

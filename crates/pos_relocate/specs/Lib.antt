@@ -2,3 +2,4 @@ pub mod Passes
 pub mod Choosing
 pub mod Gathering
 pub mod Levels
+pub mod Relocating

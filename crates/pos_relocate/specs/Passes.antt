@@ -1,14 +1,14 @@
 -- What the passes of relocation rely on, do to the disk and the writer, and find wrong.
 -- Source: the Construction document, "compression" and "sort on line points"; the damages are this project's own.
 -- In a list of pairs the points stand first and the old places second. Places count from 0, tables of a run from 1.
-use Rattle.std.specs.Prelude.{◌≡◌, ℕ, true, ◌+◌, ◌*◌, ◌^◌, ◌<◌, List, length, slice_index, AllPairs, Result, IsErrOf}
+use Rattle.std.specs.Prelude.{◌≡◌, ℕ, true, ◌+◌, ◌<◌, ◌≤◌, ◌⊎◌, List, length, slice_index, AllPairs, Result, IsErrOf}
 use Rattle.std.specs.List.Sorted.{IsPermutation}
 use Rattle.pos_edge.specs.Faults.{Rose}
 use Rattle.pos_edge.specs.View.{View}
 use Rattle.pos_edge.specs.Frame.{SameFaultsBut}
 use Rattle.pos_edge.specs.declared.scratch.ScratchDamage.{ScratchDamage}
 use Rattle.pos_edge.specs.declared.scratch.WorkFault.{WorkFault}
-use Rattle.pos_edge.specs.declared.scratch.WorkFault.TheVariants.{DiskFailed, Exists}
+use Rattle.pos_edge.specs.declared.scratch.WorkFault.TheVariants.{DiskFailed, Exists, Scratch}
 use Rattle.pos_lists.specs.Numbering.{AreNumbered, IsRepeated}
 use Rattle.pos_lists.specs.Rank.{first_in, second_in}
 use Rattle.pos_lists.specs.TableLists.{TableLists}
@@ -40,6 +40,10 @@ pub record AreShuffled (count : ℕ) (xs : List (ℕ × ℕ)) : Type 0 where
 
 -- ---- the disk and the writer
 
+-- the record that the damage names was read back as a number out of its range
+abbrev pub IsOutOfRange : ScratchDamage → Type 0
+IsOutOfRange damage = (damage.found < damage.least) ⊎ (damage.limit ≤ damage.found)
+
 -- a writer of this size that has a table open, without numbers
 pub record HasEmptyTable (size : ℕ) (w : WriterState) : Type 0 where
   pub size_is : w.size ≡ size
@@ -48,12 +52,13 @@ pub record HasEmptyTable (size : ℕ) (w : WriterState) : Type 0 where
   pub least : w.least ≡ 0
 
 -- A pass, whatever it answered: it changed the writer's file alone, each image of which has a closed gate, and made no
--- file. The count of faults tells whether the disk failed.
+-- file. The count of faults tells whether the disk failed, and damage is of a number out of its range.
 pub record IsPass {X : Type 0} (file : ℕ) (result : Result X WorkFault) (old new : View) : Type 0 where
   pub writes : WritesOnly file old new
   pub failed : IsErrOf result DiskFailed → Rose old.faults new.faults
   pub quiet : SameFaultsBut DiskFailed result old new
   pub makes_none : (number : ℕ) → IsErrOf result (Exists number) → ⊥
+  pub range : (damage : ScratchDamage) → IsErrOf result (Scratch damage) → IsOutOfRange damage
 
 -- The entries were sorted by point and their points added as a table; each has its new place by its old one.
 pub record IsTableAdded (gathered : List (ℕ × ℕ)) (places : List ℕ) (before after : WriterState) (old new : View) : Type 0 where

@@ -1,15 +1,12 @@
 //! The renumbering of one table.
-ghost use Rattle.std.specs.Prelude.{◌≡◌, ◌+◌, ◌-◌, ◌*◌, ◌/◌, ◌^◌, ◌≤◌, ◌↔◌, ℕ, Bool, List, true, length, slice_index, IfOk, IsErrOf, IsTrue, OnOk};
-ghost use Rattle.pos_lists.specs.TableLists.{TableLists, entries};
-ghost use Rattle.pos_lists.specs.Used.{MarksUsed};
+ghost use Rattle.std.specs.Prelude.{◌≡◌, ◌-◌, ◌*◌, ◌/◌, ◌^◌, ◌≤◌, ◌↔◌, ◌⊎◌, ℕ, Bool, true, slice_index, IfOk, IsErrOf, IsTrue, OnOk};
+ghost use Rattle.pos_lists.specs.TableLists.{TableLists};
 ghost use Rattle.pos_runs.specs.Runs.{TablesStand, pages_at};
-ghost use Rattle.pos_laws.specs.Tables.{Describes};
-ghost use Rattle.pos_laws.specs.Renumbering.{IsOneToOne};
 ghost use Rattle.pos_layout.specs.Writing.{OpensNext, SameFile};
 ghost use Rattle.pos_relocate.specs.Passes.{AreBelow, IsPass};
 ghost use Rattle.pos_relocate.specs.Choosing.{Chooses};
-ghost use Rattle.pos_relocate.specs.Gathering.{SameTables};
-ghost use Rattle.pos_relocate.specs.Levels.{CanRenumber, IsLevelAdded};
+ghost use Rattle.pos_relocate.specs.Gathering.{SameTables, SomeHasNoPoint};
+ghost use Rattle.pos_relocate.specs.Levels.{CanRenumber, IsLevelAdded, IsPointTwice};
 
 use crate::chosen::Chosen;
 use crate::gathering::gather;
@@ -44,11 +41,11 @@ pub(crate) fn renumber<D: Disk, const K: u32>(
     ensures places { IfOk result (λ places. AreBelow (pages_at tables.old (t - 1)).count (pages_at tables.old (t - 1)).count places.items) }
     ensures ok { IfOk result (λ places. IsLevelAdded K t chosen below.items places.items tables.old
         writer.old writer.new (D.view disk.old) (D.view disk.new)) }
-    ensures never { (damage : _) → IsErrOf result (WorkFault.Scratch damage)
-        → (ts : TableLists) (p : ℕ → Bool) (id : List ℕ) → TablesStand K tables.old ts (D.view disk.old)
+    ensures damage { (damage : _) → IsErrOf result (WorkFault.Scratch damage)
+        → (ts : TableLists) (p : ℕ → Bool) → TablesStand K tables.old ts (D.view disk.old)
         → Chooses chosen (pages_at tables.old (t - 1)).count p (D.view disk.old) → (D.view disk.old).tells ≡ true
-        → Describes ts id K → MarksUsed ts (t - 1) p → IsOneToOne ts (t - 2) (slice_index below.items)
-        → length below.items ≡ entries ts (t - 2) → ⊥ }
+        → SomeHasNoPoint ts (t - 2) p limit below.items tables.old damage
+        ⊎ IsPointTwice ts K (t - 2) (λ i. p i ≡ true) (slice_index below.items) (pages_at tables.old (t - 1)).number damage }
 {
     if is_narrow(limit) {
         renumber_in::<Narrow, D, K>(alloc, tables, t, chosen, below, limit, writer, disk)
@@ -84,11 +81,11 @@ fn renumber_in<P: Pointed, D: Disk, const K: u32>(
     ensures places { IfOk result (λ places. AreBelow (pages_at tables.old (t - 1)).count (pages_at tables.old (t - 1)).count places.items) }
     ensures ok { IfOk result (λ places. IsLevelAdded K t chosen below.items places.items tables.old
         writer.old writer.new (D.view disk.old) (D.view disk.new)) }
-    ensures never { (damage : _) → IsErrOf result (WorkFault.Scratch damage)
-        → (ts : TableLists) (p : ℕ → Bool) (id : List ℕ) → TablesStand K tables.old ts (D.view disk.old)
+    ensures damage { (damage : _) → IsErrOf result (WorkFault.Scratch damage)
+        → (ts : TableLists) (p : ℕ → Bool) → TablesStand K tables.old ts (D.view disk.old)
         → Chooses chosen (pages_at tables.old (t - 1)).count p (D.view disk.old) → (D.view disk.old).tells ≡ true
-        → Describes ts id K → MarksUsed ts (t - 1) p → IsOneToOne ts (t - 2) (slice_index below.items)
-        → length below.items ≡ entries ts (t - 2) → ⊥ }
+        → SomeHasNoPoint ts (t - 2) p limit below.items tables.old damage
+        ⊎ IsPointTwice ts K (t - 2) (λ i. p i ≡ true) (slice_index below.items) (pages_at tables.old (t - 1)).number damage }
 {
     let entries = gather::<P, D, K>(alloc, tables, t, &mut chosen, &below, limit, disk)?;
     drop(below);

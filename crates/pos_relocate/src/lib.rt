@@ -15,8 +15,10 @@ mod lasts;
 mod levels;
 mod numbering;
 mod pointed;
+mod relocating;
 
 use pos_edge::WorkFault;
+pub use relocating::relocate_tables;
 
 // Appends an item; the only error is want of memory.
 #[inline(always)]
@@ -29,3 +31,6 @@ fn push<T: Copy>(items: &mut Vec<T>, item: T) -> Result<(), WorkFault>
     }
     Ok(())
 }
+
+#[cfg(test)]
+mod tests;

@@ -1,9 +1,7 @@
-use Rattle.std.proofs.Common.{◌≡◌, ℕ, ◌+◌, ◌<◌, ◌≤◌, ◌++◌, ◌∷◌, [], List, Some, sym, refl, ap, ◌∙◌, subst, arith}
+use Rattle.std.proofs.Common.{ℕ, ◌+◌, List, sym, ◌∙◌, subst, arith}
 use Rattle.std.proofs.lemmas.Result.{err_from_is_err_and}
-use Rattle.pos_edge.specs.View.{View}
-use Rattle.pos_relocate.proofs.PointingLemmas.{point_small}
 use Rattle.pos_relocate.proofs.GatheringLemmas.{gathering_done, gathering_lost, gathering_spent, lost_no_damage, spent_no_damage, reads_then}
-use Rattle.pos_relocate.proofs.ValuesLemmas.{ValuesSoFar, values_below, values_more, values_none, values_stand, values_whole}
+use Rattle.pos_relocate.proofs.ValuesLemmas.{ValuesSoFar, values_below, values_more, values_none, values_whole}
 use Rattle.pos_relocate.proofs.gathering.gather_values.Goals as goal
 
 pub loop-i-init : goal.loop-i-init

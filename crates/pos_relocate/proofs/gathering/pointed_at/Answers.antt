@@ -1,5 +1,4 @@
-use Rattle.std.proofs.Common.{◌≡◌, ℕ, suc, ◌+◌, ◌-◌, ◌*◌, ◌^◌, ◌<◌, ◌≤◌, slice_index, sym, refl, ap, ◌∙◌, subst, inl, inr, arith}
-use Rattle.pos_points.specs.Points.{point_of}
+use Rattle.std.proofs.Common.{◌≡◌, ℕ, ◌-◌, slice_index, ap, ◌∙◌, inr, arith}
 use Rattle.pos_runs.specs.Runs.{pages_at}
 use Rattle.pos_relocate.proofs.GatheringLemmas.{same_read}
 use Rattle.pos_relocate.proofs.PointingLemmas.{number_fits, pair_point, pair_twice, point_fits, point_small}

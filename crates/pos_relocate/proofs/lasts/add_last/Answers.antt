@@ -1,6 +1,5 @@
-use Rattle.std.proofs.Common.{◌≡◌, ℕ, ◌+◌, ◌-◌, ◌*◌, ◌^◌, ◌<◌, map, length, List, Err, Ok, sym, refl, ap, ◌∙◌, subst, arith, lit<}
+use Rattle.std.proofs.Common.{◌≡◌, map, Err, Ok, sym, ap, ◌∙◌, arith, lit<}
 use Rattle.std.proofs.lemmas.Result.{err_from_is_err_and}
-use Rattle.std.specs.Prelude.{slice_index}
 use Rattle.pos_edge.specs.declared.scratch.WorkFault.TheVariants.{Scratch}
 use Rattle.pos_laws.specs.Renumbering.{firsts}
 use Rattle.pos_layout.specs.Layouts.{own}

@@ -1,17 +1,15 @@
-use Rattle.std.proofs.Common.{◌≡◌, ℕ, ◌+◌, ◌-◌, ◌*◌, ◌/◌, ◌^◌, ◌<◌, ◌≤◌, map, length, List, Err, Ok, sym, refl, ap, ◌∙◌, subst, arith, lit<}
+use Rattle.std.proofs.Common.{◌≡◌, ℕ, ◌+◌, ◌-◌, ◌*◌, ◌/◌, ◌^◌, ◌≤◌, map, List, Err, Ok, sym, ap, ◌∙◌, true, subst, inl, inr, lit<}
 use Rattle.std.specs.Prelude.{slice_index}
 use Rattle.std.proofs.lemmas.Result.{err_from_is_err_and}
 use Rattle.pos_edge.specs.declared.scratch.WorkFault.TheVariants.{Scratch}
-use Rattle.pos_lists.specs.TableLists.{entries}
-use Rattle.pos_laws.specs.Renumbering.{IsOneToOne}
 use Rattle.pos_runs.specs.Runs.{pages_at}
 use Rattle.pos_relocate.specs.Passes.{AreBelow, AreListed}
-use Rattle.pos_relocate.specs.Gathering.{CanPoint}
-use Rattle.pos_relocate.specs.Levels.{IsLevelAdded}
+use Rattle.pos_relocate.specs.Gathering.{CanPoint, SomeHasNoPoint}
+use Rattle.pos_relocate.specs.Levels.{IsLevelAdded, IsPointTwice}
 use Rattle.pos_relocate.proofs.PassLemmas.{pass_done, pass_exit, pass_then}
 use Rattle.pos_relocate.proofs.GatheringLemmas.{same_then}
 use Rattle.pos_relocate.proofs.LastTableLemmas.{gathering_pass, standing_kept, standing_reads}
-use Rattle.pos_relocate.proofs.LevelLemmas.{can_wider, level_added, never_pointless, never_repeated, outside_now, same_written}
+use Rattle.pos_relocate.proofs.LevelLemmas.{can_wider, level_added, level_count, outside_now, point_twice, same_written}
 use Rattle.pos_relocate.proofs.levels.renumber_in.Goals as goal
 
 pub gather-requires : goal.gather-requires
@@ -42,15 +40,12 @@ returns-in_err-entries-clause-pass g c =
     pass_exit c.args.writer.now.file c.from_residual.result e.0 c.in_err-entries.field-0.0 a b e.1 e.2
     (gathering_pass c.args.writer.now (Err c.in_err-entries.field-0.0) a b c.requires.can.standing c.in_err-entries.ensures.reading)
 
-pub returns-in_err-entries-clause-never : goal.returns-in_err-entries-clause-never
-returns-in_err-entries-clause-never g c = λ damage is ts p id stands chooses told described marks apart long.
+pub returns-in_err-entries-clause-damage : goal.returns-in_err-entries-clause-damage
+returns-in_err-entries-clause-damage g c = λ damage is ts p stands chooses told.
     let e = err_from_is_err_and c.from_residual.result c.from_residual.ensures.1 in
     let same : c.in_err-entries.field-0.0 ≡ Scratch damage = (let x = e.1 in let y = e.2 in cc) in
     let found = c.in_err-entries.ensures.damage damage (ap (λ f. Err f) same) ts p stands chooses told in
-    let can = c.requires.can.can in
-    let below = sym c.deref.ensures.value in
-    never_pointless ts id g.row.K c.args.t c.args.limit p c.deref.result.now c.args.tables.now damage can.first can.last described marks
-    (subst (λ (ns : List ℕ). IsOneToOne ts (c.args.t - 2) (slice_index ns)) below apart) (subst (λ (ns : List ℕ). length ns ≡ entries ts (c.args.t - 2)) below long) found
+    inl (subst (λ (ns : List ℕ). SomeHasNoPoint ts (c.args.t - 2) p c.args.limit ns c.args.tables.now damage) c.deref.ensures.value found)
 
 pub returns-in_err-places-clause-pass : goal.returns-in_err-places-clause-pass
 returns-in_err-places-clause-pass g c =
@@ -65,15 +60,19 @@ returns-in_err-places-clause-pass g c =
     pass_exit file c.from_residual-in_err-places.result e.0 c.in_err-places.field-0.0 a d e.1 e.2
     (pass_then file (Err c.in_err-places.field-0.0) a b d c.requires.can.standing.1.keeps.file.bytes.live (standing_kept c.args.writer.now a b first.only c.requires.can.standing) first.quiet c.in_err-places.ensures.pass)
 
-pub returns-in_err-places-clause-never : goal.returns-in_err-places-clause-never
-returns-in_err-places-clause-never g c = λ damage is ts p id stands chooses told described marks apart long.
+pub returns-in_err-places-clause-damage : goal.returns-in_err-places-clause-damage
+returns-in_err-places-clause-damage g c = λ damage is ts p stands chooses told.
     let e = err_from_is_err_and c.from_residual-in_err-places.result c.from_residual-in_err-places.ensures.1 in
     let same : c.in_err-places.field-0.0 ≡ Scratch damage = (let x = e.1 in let y = e.2 in cc) in
     let found = c.in_err-places.ensures.damage damage (ap (λ f. Err f) same) in
     let can = c.requires.can.can in
-    let below = sym c.deref.ensures.value in
-    never_repeated ts id g.row.K c.args.t (pages_at c.args.tables.now (c.args.t - 1)).count (2 ^ (2 * g.row.K + 2)) p c.deref.result.now (map g.P.Pointed.pair c.in_ok-entries.entries.items) c.file.result (2 ^ (2 * g.row.K + 2)) damage
-    can.first can.last described marks (subst (λ (ns : List ℕ). IsOneToOne ts (c.args.t - 2) (slice_index ns)) below apart) c.in_ok-entries.ensures.listed (c.in_ok-entries.ensures.gathered ts p stands chooses told) found
+    let k = g.row.K in
+    let t = c.args.t in
+    let first = c.in_ok-entries.ensures in
+    let file : c.file.result ≡ (pages_at c.args.tables.now (t - 1)).number = c.file.ensures ∙ first.tables.numbers (t - 1) in
+    inr (subst (λ (ns : List ℕ). IsPointTwice ts k (t - 2) (λ i. p i ≡ true) (slice_index ns) (pages_at c.args.tables.now (t - 1)).number damage) c.deref.ensures.value
+    (point_twice ts k (t - 2) (pages_at c.args.tables.now (t - 1)).count (2 ^ (2 * k + 2)) p c.deref.result.now (map g.P.Pointed.pair c.in_ok-entries.entries.items) c.file.result _ damage
+    (level_count k t c.args.tables.now ts (g.D.Disk.view c.args.disk.now) can.first can.last stands) first.listed (first.gathered ts p stands chooses told) found file))
 
 pub returns-clause-pass : goal.returns-clause-pass
 returns-clause-pass g c =

@@ -1,16 +1,15 @@
-use Rattle.std.proofs.Common.{◌≡◌, ℕ, ◌<◌, ◌≤◌, ◌+◌, ◌*◌, ◌^◌, ◌%◌, List, map, length, Err, sym, subst, arith, lit<}
+use Rattle.std.proofs.Common.{◌≡◌, ℕ, ◌<◌, ◌≤◌, ◌+◌, ◌*◌, ◌^◌, ◌%◌, map, Err, sym, subst, inl, arith, lit<}
 use Rattle.std.proofs.Math.Pow.{pow_mono}
 use Rattle.std.proofs.lemmas.List.{length-map}
 use Rattle.std.proofs.lemmas.Nat.{one_shl}
 use Rattle.std.proofs.lemmas.Result.{err_from_is_err_and}
-use Rattle.pos_edge.specs.View.{View}
 use Rattle.pos_lists.specs.Rank.{first_in}
 use Rattle.pos_layout.specs.Drafts.{added}
 use Rattle.pos_layout.specs.Writing.{Goes, OneMore}
 use Rattle.pos_relocate.specs.Passes.{IsPass}
 use Rattle.pos_relocate.proofs.EntryLemmas.{point_at, place_at}
 use Rattle.pos_relocate.proofs.AddingLemmas.{AddedSoFar, added_all, added_next, added_none, added_repeats, added_stands, added_takes}
-use Rattle.pos_relocate.proofs.PassLemmas.{pass_damage, pass_done, pass_exit, pass_then, works_pass}
+use Rattle.pos_relocate.proofs.PassLemmas.{pass_damage, pass_exit, pass_then, works_pass}
 use Rattle.pos_relocate.proofs.numbering.add_points.Goals as goal
 
 pub loop-entry-init : goal.loop-entry-init
@@ -46,7 +45,7 @@ returns-then-point-least-clause-damage g c = λ damage is.
     limit (cc)
 
 pub returns-then-point-least-clause-pass : goal.returns-then-point-least-clause-pass
-returns-then-point-least-clause-pass g c = pass_damage _ c.args.writer.now.file _ (g.D.Disk.view c.args.disk.now) (g.D.Disk.view c.loop-entry.disk) c.loop-entry.invariant.writes c.loop-entry.invariant.faults
+returns-then-point-least-clause-pass g c = pass_damage _ c.args.writer.now.file _ (g.D.Disk.view c.args.disk.now) (g.D.Disk.view c.loop-entry.disk) (inl c.if-point-least.true) c.loop-entry.invariant.writes c.loop-entry.invariant.faults
 
 pub add-requires-clause-stands : goal.add-requires-clause-stands
 add-requires-clause-stands g c = added_stands g.row.K c.loop-entry.entry-index c.loop-entry.least (map g.P.Pointed.pair c.args.records.now) c.args.writer.now c.loop-entry.writer

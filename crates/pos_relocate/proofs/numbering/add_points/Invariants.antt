@@ -1,4 +1,4 @@
-use Rattle.std.proofs.Common.{◌≤◌, map, length}
+use Rattle.std.proofs.Common.{map}
 use Rattle.pos_relocate.proofs.AddingLemmas.{AddedSoFar}
 use Rattle.pos_relocate.proofs.numbering.add_points.Given as goal
 

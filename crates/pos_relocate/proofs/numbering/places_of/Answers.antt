@@ -1,5 +1,5 @@
 use Rattle.pos_relocate.proofs.EntryLemmas.{moved_next, shuffled_inside}
-use Rattle.std.proofs.Common.{◌≡◌, ◌<◌, arith, rules}
+use Rattle.std.proofs.Common.{arith}
 use Rattle.pos_relocate.proofs.numbering.places_of.Goals as goal
 
 pub loop-place-preserved : goal.loop-place-preserved

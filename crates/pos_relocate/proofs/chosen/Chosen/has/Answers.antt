@@ -1,4 +1,4 @@
-use Rattle.std.proofs.Common.{◌≡◌, ℕ, ◌<◌, Bool, true, sym, ap, ◌∙◌, subst}
+use Rattle.std.proofs.Common.{◌≡◌, ℕ, ◌<◌, Bool, true, ◌∙◌, subst}
 use Rattle.pos_marks.specs.Marks.{Marked}
 use Rattle.pos_layout.proofs.ShutLemmas.{on_ok}
 use Rattle.pos_relocate.specs.Choosing.{Chooses}
