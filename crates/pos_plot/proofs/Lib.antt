@@ -1,0 +1,6 @@
+mod StartLemmas
+mod CloseLemmas
+mod FillLemmas
+mod PlotLemmas
+mod RunLemmas
+mod SizeLemmas

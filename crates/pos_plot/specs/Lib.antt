@@ -1,0 +1,5 @@
+pub mod Faults
+pub mod PlotFiles
+pub mod PlotRuns
+pub mod PlotLaws
+pub mod Steps

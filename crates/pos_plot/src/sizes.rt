@@ -1,0 +1,102 @@
+// The choice of a size.
+ghost use Rattle.std.specs.Prelude.{◌≡◌, ◌+◌, ◌^◌, ◌≤◌, ℕ};
+ghost use Rattle.pos_edge.specs.ScratchNames.{IsScratchName};
+ghost use Rattle.pos_plot.specs.PlotRuns.{IsPlotRun};
+
+use crate::{Counts, PlotFault, plot};
+use pos_edge::Disk;
+use pos_layout::GREATEST_SIZE;
+use pos_runs::Plan;
+use pos_tuple::{Id, Size};
+use std::alloc::Global;
+
+// The run of one of these sizes, the last of them where it is none of the others.
+macro_rules! by_size {
+    ($alloc:ident, $id:ident, $size:ident, $plan:ident, $name:ident, $scratch:ident, $disk:ident; $($k:literal)* ; $last:literal) => {
+        match $size.k() {
+            $($k => plot::<D, $k>($alloc, $id, $plan, $name, $scratch, $disk),)*
+            _ => plot::<D, $last>($alloc, $id, $plan, $name, $scratch, $disk),
+        }
+    };
+}
+
+/// `plot` of this size.
+pub fn plot_sized<D: Disk>(
+    alloc: Global,
+    id: &Id,
+    size: Size,
+    plan: &Plan,
+    name: &str,
+    scratch: &str,
+    disk: &mut D,
+) -> Result<Counts, PlotFault>
+    requires size { size ≤ GREATEST_SIZE }
+    requires plan { plan.now ≤ 2 ^ (size + 1) }
+    requires apart { IsScratchName scratch.now name.now → ⊥ }
+    ensures { IsPlotRun id.now.0 size plan.now name.now scratch.now result (D.view disk.old) (D.view disk.new) }
+{
+    let k = size.k();
+    if k <= 17 {
+        small(alloc, id, size, plan, name, scratch, disk)
+    } else if k <= 25 {
+        middling(alloc, id, size, plan, name, scratch, disk)
+    } else {
+        large(alloc, id, size, plan, name, scratch, disk)
+    }
+}
+
+// Sizes 10 to 17.
+fn small<D: Disk>(
+    alloc: Global,
+    id: &Id,
+    size: Size,
+    plan: &Plan,
+    name: &str,
+    scratch: &str,
+    disk: &mut D,
+) -> Result<Counts, PlotFault>
+    requires most { size ≤ 17 }
+    requires plan { plan.now ≤ 2 ^ (size + 1) }
+    requires apart { IsScratchName scratch.now name.now → ⊥ }
+    ensures { IsPlotRun id.now.0 size plan.now name.now scratch.now result (D.view disk.old) (D.view disk.new) }
+{
+    by_size!(alloc, id, size, plan, name, scratch, disk; 10 11 12 13 14 15 16; 17)
+}
+
+// Sizes 18 to 25.
+fn middling<D: Disk>(
+    alloc: Global,
+    id: &Id,
+    size: Size,
+    plan: &Plan,
+    name: &str,
+    scratch: &str,
+    disk: &mut D,
+) -> Result<Counts, PlotFault>
+    requires least { 18 ≤ size }
+    requires most { size ≤ 25 }
+    requires plan { plan.now ≤ 2 ^ (size + 1) }
+    requires apart { IsScratchName scratch.now name.now → ⊥ }
+    ensures { IsPlotRun id.now.0 size plan.now name.now scratch.now result (D.view disk.old) (D.view disk.new) }
+{
+    by_size!(alloc, id, size, plan, name, scratch, disk; 18 19 20 21 22 23 24; 25)
+}
+
+// Sizes 26 to 32.
+fn large<D: Disk>(
+    alloc: Global,
+    id: &Id,
+    size: Size,
+    plan: &Plan,
+    name: &str,
+    scratch: &str,
+    disk: &mut D,
+) -> Result<Counts, PlotFault>
+    requires least { 26 ≤ size }
+    requires most { size ≤ 32 }
+    requires plan { plan.now ≤ 2 ^ (size + 1) }
+    requires apart { IsScratchName scratch.now name.now → ⊥ }
+    ensures { IsPlotRun id.now.0 size plan.now name.now scratch.now result (D.view disk.old) (D.view disk.new) }
+{
+    by_size!(alloc, id, size, plan, name, scratch, disk; 26 27 28 29 30 31; 32)
+}
