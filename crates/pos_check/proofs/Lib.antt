@@ -1,0 +1,5 @@
+pub mod AnswerLemmas
+pub mod BranchLemmas
+pub mod StepLemmas
+pub mod SurveyLemmas
+pub mod WholeSummaries

@@ -1,0 +1,5 @@
+pub mod Challenges
+pub mod Summaries
+pub mod SummaryLaws
+pub mod Steps
+pub mod Surveys
