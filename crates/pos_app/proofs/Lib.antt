@@ -3,5 +3,10 @@ pub mod DecimalLemmas
 pub mod DigitLemmas
 pub mod FileLemmas
 pub mod ListLemmas
+pub mod CheckLemmas
+pub mod NameLemmas
 pub mod PlotLemmas
+pub mod PlottingLemmas
+pub mod SurveyWords
+pub mod SurveyingLemmas
 pub mod TextLemmas

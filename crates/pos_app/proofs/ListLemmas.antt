@@ -13,9 +13,10 @@ use Rattle.pos_harvest.proofs.DamageLemmas.{proof_list_damage_is_of_the_file, qu
 use Rattle.pos_layout.proofs.FileOpening.{nothing_where_opens}
 use Rattle.pos_app.specs.Statuses.{done_status, disk_fault_status, damage_status, name_status}
 use Rattle.pos_app.specs.Answers.{Speaks}
-use Rattle.pos_app.specs.Command.{Command, Verify, Prove, Quality, Inspect, IsForChallenge, IsOnFile}
+use Rattle.pos_app.specs.Command.{Command, Verify, MakePlot, Prove, Quality, Inspect, CheckPlot, Survey, IsForChallenge, IsOnFile}
 use Rattle.pos_app.specs.FileAnswers.{IsOpeningDamage, NamesDamage, RefusesUnopened, SaysOfFile, SaysUnlessFault, ShowsText}
 use Rattle.pos_app.specs.InspectAnswers.{IsHeaderText}
+use Rattle.pos_app.specs.CheckAnswers.{IsCheckDamage, IsCheckedText}
 use Rattle.pos_app.specs.ListAnswers.{IsProofsText, IsProveDamage, IsQualitiesText, IsQualityDamage, ReadsForProofs, ReadsForQualities, SaysProofs, SaysQualities, WritesNoFalseProof}
 use Rattle.pos_app.specs.Obeyed.{SaysAnswer}
 use Rattle.pos_app.specs.Texts.{absent_line, damage_line, disk_fault_line}
@@ -59,12 +60,12 @@ not_done status text result old new some done (inl said) = let ends = said.ends 
 not_done status text result old new some done (inr cut) = let ends = cut.status in omega arith
 
 -- where the text was written to its end
-written : (text : List ℕ) (result : ℕ) (old new : Heard) → result ≡ done_status → Speaks done_status text result old new → new.text ≡ followed_by old.text text
+pub written : (text : List ℕ) (result : ℕ) (old new : Heard) → result ≡ done_status → Speaks done_status text result old new → new.text ≡ followed_by old.text text
 written text result old new done (inl said) = said.whole
 written text result old new done (inr cut) = let ends = cut.status in absurd (omega arith)
 
 -- a command that is done has shown a text
-shown_text : (IsRight : List ℕ → Type 0) (Has : List ℕ → Damage → Type 0) (file : List ℕ) (before after : View) (result : ℕ) (old new : Heard)
+pub shown_text : (IsRight : List ℕ → Type 0) (Has : List ℕ → Damage → Type 0) (file : List ℕ) (before after : View) (result : ℕ) (old new : Heard)
     → result ≡ done_status → SaysOfFile IsRight Has file before after result old new → ShowsText IsRight result old new
 shown_text IsRight Has file before after result old new done (inl (inl shown)) = shown
 shown_text IsRight Has file before after result old new done (inl (inr (inl damaged))) =
@@ -157,6 +158,7 @@ list_damage b d More (inr listed) = inr listed.0
 pub any_file : (m : Command) (file : List ℕ) (before after : View) (result : ℕ) (old new : Heard) → before.tells ≡ true → IsOnFile file m
     → SaysAnswer m before after result old new → RefusesUnopened file before after result old new
 any_file (Verify id k challenge proof) file before after result old new tells on says = absurd on
+any_file (MakePlot id k name base) file before after result old new tells on says = absurd on
 any_file (Prove name c) file before after result old new tells on says =
     subst (λ n. RefusesUnopened n before after result old new) on
     (refuses (IsProofsText name c before after) (IsProveDamage c) name before after result old new tells
@@ -169,17 +171,22 @@ any_file (Inspect name) file before after result old new tells on says =
     subst (λ n. RefusesUnopened n before after result old new) on
     (refuses (IsHeaderText name before) IsOpeningDamage name before after result old new tells
     (λ text right. let held = right.told tells in (held.0, held.1, held.2)) (λ b d has. inl has) says)
+any_file (CheckPlot name n) file before after result old new tells on says =
+    subst (λ n. RefusesUnopened n before after result old new) on
+    (refuses (IsCheckedText name n before after) (IsCheckDamage n) name before after result old new tells
+    (λ text right. let held = right.told tells in (held.bytes, held.contents, held.opens)) (λ b d has. list_damage b d _ has) says)
+any_file (Survey k number n name base) file before after result old new tells on says = absurd on
 
 -- ---- the causes of a damage
 
 -- a text with another status is not said where a damage is
-not_damaged : (status : ℕ) (text : List ℕ) (result : ℕ) (old new : Heard) → (status ≡ damage_status → ⊥) → result ≡ damage_status
+pub not_damaged : (status : ℕ) (text : List ℕ) (result : ℕ) (old new : Heard) → (status ≡ damage_status → ⊥) → result ≡ damage_status
     → Speaks status text result old new → ⊥
 not_damaged status text result old new other is (inl said) = other (sym said.ends ∙ is)
 not_damaged status text result old new other is (inr cut) = let ends = cut.status in omega arith
 
 -- where the line was written to its end
-damage_written : (text : List ℕ) (result : ℕ) (old new : Heard) → result ≡ damage_status → Speaks damage_status text result old new
+pub damage_written : (text : List ℕ) (result : ℕ) (old new : Heard) → result ≡ damage_status → Speaks damage_status text result old new
     → new.text ≡ followed_by old.text text
 damage_written text result old new is (inl said) = said.whole
 damage_written text result old new is (inr cut) = let ends = cut.status in absurd (omega arith)
@@ -217,6 +224,7 @@ quality_cause b c d (inr listed) = inr (listed.0, inl (quality_list_damage_is_of
 pub names_damage : (m : Command) (file c : List ℕ) (before after : View) (result : ℕ) (old new : Heard) → before.tells ≡ true → result ≡ damage_status
     → IsOnFile file m → IsForChallenge c m → SaysAnswer m before after result old new → NamesDamage file c before old new
 names_damage (Verify id k challenge proof) file c before after result old new tells is on asked says = absurd on
+names_damage (MakePlot id k name base) file c before after result old new tells is on asked says = absurd on
 names_damage (Prove name challenge) file c before after result old new tells is on asked says =
     subst (λ n. NamesDamage n c before old new) on (subst (λ s. NamesDamage name s before old new) asked
     (names (IsProofsText name challenge before after) (IsProveDamage challenge) name challenge before after result old new tells is
@@ -228,3 +236,5 @@ names_damage (Quality name challenge) file c before after result old new tells i
 names_damage (Inspect name) file c before after result old new tells is on asked says =
     subst (λ n. NamesDamage n c before old new) on
     (names (IsHeaderText name before) IsOpeningDamage name c before after result old new tells is (λ b d has. inl (cause_found own b d has)) says)
+names_damage (CheckPlot name n) file c before after result old new tells is on asked says = absurd asked
+names_damage (Survey k number n name base) file c before after result old new tells is on asked says = absurd on

@@ -6,8 +6,11 @@ pub mod Texts
 pub mod Answers
 pub mod VerifyAnswers
 pub mod FileAnswers
+pub mod PlottingAnswers
 pub mod InspectAnswers
 pub mod ListAnswers
 pub mod PlotAnswers
+pub mod CheckAnswers
+pub mod SurveyAnswers
 pub mod Refused
 pub mod Obeyed

@@ -1,9 +1,13 @@
 -- A command as the program holds it. This is for private functions; no public clause speaks of it.
-use Rattle.std.specs.Prelude.{◌≡◌, ◌≢◌, List, [], ℕ, length, slice_index, Option, Some, None, IsSome, unwrap_or}
-use Rattle.pos_app.specs.Words.{bytes_word}
-use Rattle.pos_app.specs.Command.{Command as Meant, Verify as MeantVerify, Prove as MeantProve, Quality as MeantQuality, Inspect as MeantInspect}
+use Rattle.std.specs.Prelude.{◌≡◌, ◌≢◌, ◌≤◌, List, [], ℕ, length, slice_index, Option, Some, None, IsSome, unwrap_or}
+use Rattle.std.specs.Bool.{IsFalse}
+use Rattle.pos_app.specs.Words.{begins_as_scratch, bytes_word}
+use Rattle.pos_app.specs.Command.{Command as Meant, Verify as MeantVerify, MakePlot as MeantPlot, Prove as MeantProve, Quality as MeantQuality, Inspect as MeantInspect, CheckPlot as MeantCheck, Survey as MeantSurvey}
 use Rattle.pos_app.specs.declared.command.Command.{Command}
-use Rattle.pos_app.specs.declared.command.Command.TheVariants.{Verify, Prove, Quality, Inspect}
+use Rattle.pos_app.specs.declared.command.Making.{Making}
+use Rattle.pos_app.specs.declared.command.Names.{Names}
+use Rattle.pos_app.specs.declared.command.Surveyed.{Surveyed}
+use Rattle.pos_app.specs.declared.command.Command.TheVariants.{Verify, MakePlot, Prove, Quality, Inspect, CheckPlot, Survey}
 
 -- the bytes that hexadecimal digits write
 abbrev pub digits_bytes : List ℕ → List ℕ
@@ -12,21 +16,43 @@ digits_bytes digits = unwrap_or (bytes_word digits) []
 -- the command that the program holds
 abbrev pub meant : Command → Meant
 meant (Verify judged) = MeantVerify judged.id.0 judged.size judged.challenge.0 (digits_bytes judged.proof.now)
+meant (MakePlot making) = MeantPlot making.id.0 making.size making.names.file.now making.names.base.now
 meant (Prove question) = MeantProve question.file.now question.challenge.0
 meant (Quality question) = MeantQuality question.file.now question.challenge.0
 meant (Inspect file) = MeantInspect file.now
+meant (CheckPlot test) = MeantCheck test.file.now test.challenges
+meant (Survey made) = MeantSurvey made.size made.number made.challenges made.names.file.now made.names.base.now
 
--- its proof is an even number of digits
-abbrev pub HasDigits : Command → Type 0
-HasDigits (Verify judged) = IsSome (bytes_word judged.proof.now)
-HasDigits (Prove question) = Unit {0}
-HasDigits (Quality question) = Unit {0}
-HasDigits (Inspect file) = Unit {0}
+-- the name of the file does not begin as those of the scratch files do
+abbrev pub AreApart : Names → Type 0
+AreApart names = IsFalse (begins_as_scratch names.base.now names.file.now)
+
+-- a plot file can have this size, and the two names are apart
+pub record IsMakeable (making : Making) : Type 0 where
+  pub greatest : making.size ≤ 32
+  pub apart : AreApart making.names
+
+-- and its challenges are not too many
+pub record IsSurveyable (made : Surveyed) : Type 0 where
+  pub greatest : made.size ≤ 32
+  pub few : made.challenges ≤ 1000000
+  pub apart : AreApart made.names
+
+-- its proof is an even number of digits, its size and its names are those of a plot, its challenges
+-- are not too many
+abbrev pub IsObeyable : Command → Type 0
+IsObeyable (Verify judged) = IsSome (bytes_word judged.proof.now)
+IsObeyable (MakePlot making) = IsMakeable making
+IsObeyable (Prove question) = Unit {0}
+IsObeyable (Quality question) = Unit {0}
+IsObeyable (Inspect file) = Unit {0}
+IsObeyable (CheckPlot test) = test.challenges ≤ 1000000
+IsObeyable (Survey made) = IsSurveyable made
 
 -- it is the one that the words are, or there is none
 abbrev pub Reads : Option Command → Option Meant → Type 0
 Reads None command = command ≡ None
-Reads (Some held) command = HasDigits held × (command ≡ Some (meant held))
+Reads (Some held) command = IsObeyable held × (command ≡ Some (meant held))
 
 -- no sign stands in front (43 is a plus), and no zero (48) before other digits
 abbrev pub IsPlain : List ℕ → Type 0

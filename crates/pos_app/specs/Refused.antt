@@ -7,6 +7,8 @@ use Rattle.pos_edge.specs.Frame.{ChangesOnly, Nothing, SameFaultsBut}
 use Rattle.pos_layout.specs.declared.damage.Damage.{Damage}
 use Rattle.pos_reader.specs.declared.refusal.OpenRefusal.{OpenRefusal}
 use Rattle.pos_reader.specs.declared.refusal.OpenRefusal.TheVariants.{Absent as NotThere, DiskFailed as OpeningFailed, Damage as OpenedDamaged, Memory as NoMemory}
+use Rattle.pos_reader.specs.declared.refusal.ReadRefusal.{ReadRefusal}
+use Rattle.pos_reader.specs.declared.refusal.ReadRefusal.TheVariants.{DiskFailed as ReadFailed, Damage as ReadDamaged}
 use Rattle.pos_harvest.specs.declared.refusal.ListRefusal.{ListRefusal}
 use Rattle.pos_harvest.specs.declared.refusal.ListRefusal.TheVariants.{DiskFailed as ListFailed, Damage as ListDamaged, Memory as NoListMemory}
 use Rattle.pos_app.specs.declared.refusal.Refusal.{Refusal}
@@ -28,6 +30,11 @@ abbrev pub list_refusal : ListRefusal → Refusal
 list_refusal ListFailed = DiskFailed
 list_refusal (ListDamaged d) = Damaged d
 list_refusal NoListMemory = Memory
+
+-- why a plot was not read
+abbrev pub read_refusal : ReadRefusal → Refusal
+read_refusal ReadFailed = DiskFailed
+read_refusal (ReadDamaged d) = Damaged d
 
 -- when each comes
 abbrev pub IsRefused : (List ℕ → Damage → Type 0) → List ℕ → View → View → Refusal → Type 0

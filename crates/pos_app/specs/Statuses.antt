@@ -25,9 +25,17 @@ damage_status = 4
 abbrev pub name_status : ℕ
 name_status = 5
 
+-- a table has too many entries
+abbrev pub full_status : ℕ
+full_status = 6
+
 -- the sink failed
 abbrev pub sink_fault_status : ℕ
 sink_fault_status = 7
+
+-- a record of a scratch file was read back out of its range
+abbrev pub scratch_status : ℕ
+scratch_status = 8
 
 -- memory was wanting
 abbrev pub memory_status : ℕ

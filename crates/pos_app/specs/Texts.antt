@@ -1,8 +1,9 @@
 -- The lines that the program writes: words with one blank between two of them, and one newline at the end. Numbers are
 -- decimal without leading zeros, bytes are hexadecimal in lower case.
-use Rattle.std.specs.Prelude.{ℕ, suc, List, [], ◌∷◌, ◌++◌, codes, length, map}
+use Rattle.std.specs.Prelude.{ℕ, suc, List, [], ◌∷◌, ◌++◌, codes, length, map, slice_index}
 use Rattle.std.specs.Fmt.{decimal}
 use Rattle.hex.specs.Hex.{encode_lower}
+use Rattle.pos_edge.specs.declared.scratch.ScratchDamage.{ScratchDamage}
 use Rattle.pos_order.specs.Values.{value_bytes}
 use Rattle.pos_layout.specs.declared.header.Header.{Header}
 use Rattle.pos_layout.specs.Fields.{count_of}
@@ -29,6 +30,22 @@ verdict_line (Accepted quality) = line (codes "accepted" ∷ encode_lower qualit
 verdict_line (WrongLength want found) = line (codes "refused" ∷ codes "length" ∷ decimal want ∷ decimal found ∷ [])
 verdict_line (NoMatch level pair) = line (codes "refused" ∷ codes "match" ∷ decimal level ∷ decimal pair ∷ [])
 verdict_line (WrongChallenge want found) = line (codes "refused" ∷ codes "challenge" ∷ decimal want ∷ decimal found ∷ [])
+
+-- what is said of a plot of size k that was made, by the counts of its seven tables
+abbrev pub plotted_line : ℕ → List ℕ → List ℕ
+plotted_line k counts =
+    line (codes "plotted" ∷ decimal k ∷ decimal (slice_index counts 0) ∷ decimal (slice_index counts 1) ∷ decimal (slice_index counts 2)
+    ∷ decimal (slice_index counts 3) ∷ decimal (slice_index counts 4) ∷ decimal (slice_index counts 5) ∷ decimal (slice_index counts 6) ∷ [])
+
+-- what is said where the table has too many entries
+abbrev pub full_line : ℕ → List ℕ
+full_line table = line (codes "table" ∷ codes "full" ∷ decimal table ∷ [])
+
+-- what is said of a record that was read back out of its range: 58 is a colon, 46 a full stop
+abbrev pub scratch_line : ScratchDamage → List ℕ
+scratch_line d =
+    line (codes "scratch" ∷ decimal d.file ∷ codes "record" ∷ (decimal d.at ++ 58 ∷ []) ∷ decimal d.found ∷ codes "outside"
+    ∷ (decimal d.least ++ 46 ∷ 46 ∷ decimal d.limit) ∷ [])
 
 -- the lines of an id and of a size
 abbrev pub id_line : List ℕ → List ℕ
@@ -75,9 +92,17 @@ abbrev pub qualities_text : List (List ℕ) → List ℕ
 qualities_text qualities =
     lines_of (map encode_lower qualities) ++ line (decimal (length qualities) ∷ codes "qualities" ∷ [])
 
--- what is said where no file has the name, and where the disk failed
+-- what is said of a plot that was tested by n challenges: how many proofs it has for them, and the digest of their qualities
+abbrev pub checked_line : ℕ → ℕ → List ℕ → List ℕ
+checked_line n proofs digest =
+    line (codes "checked" ∷ decimal n ∷ codes "proofs" ∷ decimal proofs ∷ codes "digest" ∷ encode_lower digest ∷ [])
+
+-- what is said where no file has the name, where one has it that was to be made, and where the disk failed
 abbrev pub absent_line : List ℕ → List ℕ
 absent_line name = line (codes "absent" ∷ name ∷ [])
+
+abbrev pub exists_line : List ℕ → List ℕ
+exists_line name = line (codes "exists" ∷ name ∷ [])
 
 abbrev pub disk_fault_line : List ℕ
 disk_fault_line = line (codes "disk" ∷ codes "fault" ∷ [])

@@ -3,9 +3,12 @@
 
 mod command;
 mod list_text;
+mod plotting;
 mod program;
 mod refusal;
+mod saying;
 mod shown;
+mod surveying;
 mod text;
 
 pub use program::run;

@@ -1,47 +1,37 @@
 // The top call.
-ghost use Rattle.std.specs.Prelude.{◌≡◌, ◌≢◌, ◌*◌, ◌⊎◌, ◌↔◌, true, ℕ, List, IfOk, IsSome, OnErr, length, string_bytes};
+ghost use Rattle.std.specs.Prelude.{◌≡◌, ◌≢◌, ◌*◌, ◌≤◌, ◌↔◌, true, ℕ, List, IsSome, length};
 ghost use Rattle.std.specs.Bool.{IsFalse};
 ghost use Rattle.pos_edge.specs.Faults.{Rose};
 ghost use Rattle.pos_edge.specs.Frame.{ChangesOnly, Nothing};
 ghost use Rattle.pos_verify.specs.Verdict.{IsAcceptance, IsProofBytes, IsRight};
 ghost use Rattle.pos_app.specs.Words.{bytes_word};
-ghost use Rattle.pos_app.specs.Command.{Verify, Prove, Quality, Inspect, Asks, AsksFor, AsksOfFile, IsNoCommand, NeedsNoDisk, needs_disk};
+ghost use Rattle.pos_app.specs.Command.{Verify, MakePlot, Prove, Quality, Inspect, CheckPlot, Survey, Asks, AsksFor, AsksOfFile, IsNoCommand, MakesNoFile, NeedsNoDisk, makes_files, needs_disk};
 ghost use Rattle.pos_app.specs.Statuses.{done_status, refused_status, usage_status, disk_fault_status, damage_status, sink_fault_status, memory_status};
 ghost use Rattle.pos_app.specs.Texts.{usage_line};
-ghost use Rattle.pos_app.specs.Answers.{Speaks, IsUnsaid, EndsWith, TellsFaults};
+ghost use Rattle.pos_app.specs.Answers.{Speaks, TellsFaults};
 ghost use Rattle.pos_app.specs.VerifyAnswers.{SaysVerdict, TellsProofs, verdict_status};
+ghost use Rattle.pos_app.specs.PlottingAnswers.{SaysPlotting, TellsPlotting, IsPlotStatus, EndsSafely};
 ghost use Rattle.pos_app.specs.FileAnswers.{NamesDamage, RefusesUnopened};
 ghost use Rattle.pos_app.specs.InspectAnswers.{SaysInspection};
 ghost use Rattle.pos_app.specs.ListAnswers.{SaysProofs, SaysQualities, WritesNoFalseProof, ReadsForProofs, ReadsForQualities};
 ghost use Rattle.pos_app.specs.PlotAnswers.{HoldsPlotOf, HoldsWholeFile, ShowsProofsOrNone, ShowsQualities, SaysTheProofs, SaysTheQualities};
+ghost use Rattle.pos_app.specs.CheckAnswers.{SaysCheck, SaysTheSummary, ShowsSummaryOrNone, ReadsForCheck, NamesCheckDamage};
+ghost use Rattle.pos_app.specs.SurveyAnswers.{SaysSurvey, TellsSurvey, IsSurveyStatus};
+ghost use Rattle.pos_check.specs.Challenges.{survey_id};
 ghost use Rattle.pos_app.specs.Obeyed.{SaysAnswer, TellsAnswer};
 ghost use Rattle.pos_app.specs.Refused.{SaysRefusal};
-ghost use Rattle.pos_app.specs.Read.{HasDigits, digits_bytes, meant};
+ghost use Rattle.pos_app.specs.Read.{IsObeyable, digits_bytes, meant};
 
-use crate::command::{Command, Judged, Question, read_command};
+use crate::command::{Command, Judged, Question, Test, read_command};
+use crate::plotting::run_plot;
 use crate::refusal::Refusal;
-use crate::shown::{header_text, listed_proofs, listed_qualities};
+use crate::saying::{DAMAGE, DISK_FAULT, DONE, NAME, OUT_OF_MEMORY, REFUSED, USAGE, say, say_text};
+use crate::shown::{checked_text, header_text, listed_proofs, listed_qualities};
+use crate::surveying::run_survey;
 use crate::text::{DISK_FAULT_LINE, USAGE_LINE, absent_line, damage_line, verdict_line};
 use pos_edge::{Disk, Sink};
 use pos_verify::{Verdict, verify};
-use std::alloc::{AllocError, Global};
-
-// The statuses that the program ends with.
-const DONE: u8 = 0;
-
-const REFUSED: u8 = 1;
-
-const USAGE: u8 = 2;
-
-const DISK_FAULT: u8 = 3;
-
-const DAMAGE: u8 = 4;
-
-const ABSENT: u8 = 5;
-
-const SINK_FAULT: u8 = 7;
-
-const OUT_OF_MEMORY: u8 = 9;
+use std::alloc::Global;
 
 // The most bytes that a proof of any size has.
 const LONGEST_PROOF: usize = 400;
@@ -57,6 +47,15 @@ pub fn run<D: Disk, S: Sink>(alloc: Global, words: &[String], disk: &mut D, out:
         → SaysVerdict id k challenge proof result (S.heard out.old) (S.heard out.new) }
     ensures proofs { (id challenge proof : List ℕ) (k : ℕ) → Asks words.now (Verify id k challenge proof)
         → TellsProofs id k challenge proof result }
+
+    // `plot ID K FILE SCRATCH`: one run, and what its status tells; what it leaves, whatever ends it.
+    ensures plot { (id file base : List ℕ) (k : ℕ) → Asks words.now (MakePlot id k file base)
+        → SaysPlotting id k file base (D.view disk.old) (D.view disk.new) result (S.heard out.old) (S.heard out.new) }
+    ensures plotting { (id file base : List ℕ) (k : ℕ) → Asks words.now (MakePlot id k file base) → (D.view disk.old).tells ≡ true
+        → TellsPlotting id k file base (D.view disk.old) (D.view disk.new) result (S.heard out.old) (S.heard out.new) }
+    ensures plot_status { (id file base : List ℕ) (k : ℕ) → Asks words.now (MakePlot id k file base) → IsPlotStatus result }
+    ensures crash { (id file base : List ℕ) (k : ℕ) → Asks words.now (MakePlot id k file base)
+        → EndsSafely id k file base (D.view disk.old) (D.view disk.new) }
 
     // `prove FILE CHALLENGE`: over any file, over a whole file, over the plot of an id; and two facts over every disk.
     ensures prove { (file c : List ℕ) → Asks words.now (Prove file c)
@@ -84,6 +83,27 @@ pub fn run<D: Disk, S: Sink>(alloc: Global, words: &[String], disk: &mut D, out:
     ensures inspect { (file : List ℕ) → Asks words.now (Inspect file)
         → SaysInspection file (D.view disk.old) (D.view disk.new) result (S.heard out.old) (S.heard out.new) }
 
+    // `check FILE N`: over any file, over a whole file, over the plot of an id.
+    ensures check { (file : List ℕ) (n : ℕ) → Asks words.now (CheckPlot file n)
+        → SaysCheck file n (D.view disk.old) (D.view disk.new) result (S.heard out.old) (S.heard out.new) }
+    ensures whole_check { (file : List ℕ) (n : ℕ) → Asks words.now (CheckPlot file n) → (held : HoldsWholeFile file (D.view disk.old))
+        → ShowsSummaryOrNone file n (D.view disk.old) held (D.view disk.new) result (S.heard out.old) (S.heard out.new) }
+    ensures checks { (file id : List ℕ) (k n : ℕ) → Asks words.now (CheckPlot file n) → HoldsPlotOf id k file (D.view disk.old)
+        → SaysTheSummary id k n (D.view disk.old) (D.view disk.new) result (S.heard out.old) (S.heard out.new) }
+    ensures check_reads { (file : List ℕ) (n : ℕ) → Asks words.now (CheckPlot file n) → result ≡ done_status
+        → ReadsForCheck n (D.view disk.old) (D.view disk.new) (S.heard out.old) (S.heard out.new) }
+    ensures check_damages { (file : List ℕ) (n : ℕ) → Asks words.now (CheckPlot file n) → (D.view disk.old).tells ≡ true → result ≡ damage_status
+        → NamesCheckDamage file n (D.view disk.old) (S.heard out.old) (S.heard out.new) }
+
+    // `survey K NUMBER N FILE SCRATCH`: one survey, and what its status tells; what it leaves, whatever ends it.
+    ensures survey { (file base : List ℕ) (k number n : ℕ) → Asks words.now (Survey k number n file base)
+        → SaysSurvey k number n file base (D.view disk.old) (D.view disk.new) result (S.heard out.old) (S.heard out.new) }
+    ensures surveying { (file base : List ℕ) (k number n : ℕ) → Asks words.now (Survey k number n file base) → (D.view disk.old).tells ≡ true
+        → TellsSurvey k number n file base (D.view disk.old) (D.view disk.new) result (S.heard out.old) (S.heard out.new) }
+    ensures survey_status { (file base : List ℕ) (k number n : ℕ) → Asks words.now (Survey k number n file base) → IsSurveyStatus result }
+    ensures survey_crash { (file base : List ℕ) (k number n : ℕ) → Asks words.now (Survey k number n file base)
+        → EndsSafely (survey_id number) k file base (D.view disk.old) (D.view disk.new) }
+
     // Every command on a file, over a disk that tells: a file that is not there or does not open, and what 4 names.
     ensures any_file { (file : List ℕ) → AsksOfFile words.now file → (D.view disk.old).tells ≡ true
         → RefusesUnopened file (D.view disk.old) (D.view disk.new) result (S.heard out.old) (S.heard out.new) }
@@ -95,7 +115,7 @@ pub fn run<D: Disk, S: Sink>(alloc: Global, words: &[String], disk: &mut D, out:
     ensures disk_fault { TellsFaults result (D.view disk.old) (D.view disk.new) }
     ensures out_of_memory { result ≡ memory_status → (S.heard out.new).text ≡ (S.heard out.old).text }
     ensures no_disk { NeedsNoDisk words.now → disk.new ≡ disk.old }
-    ensures files { ChangesOnly Nothing Nothing (D.view disk.old) (D.view disk.new) }
+    ensures files { MakesNoFile words.now → ChangesOnly Nothing Nothing (D.view disk.old) (D.view disk.new) }
 {
     match read_command(words) {
         None => say(out, USAGE_LINE, USAGE),
@@ -105,18 +125,21 @@ pub fn run<D: Disk, S: Sink>(alloc: Global, words: &[String], disk: &mut D, out:
 
 // Does what a command says.
 fn obey<D: Disk, S: Sink>(alloc: Global, command: &Command<'_>, disk: &mut D, out: &mut S) -> u8
-    requires { HasDigits command.now }
+    requires { IsObeyable command.now }
     ensures answer { SaysAnswer (meant command.now) (D.view disk.old) (D.view disk.new) result (S.heard out.old) (S.heard out.new) }
     ensures proofs { TellsAnswer (meant command.now) result }
     ensures faults { TellsFaults result (D.view disk.old) (D.view disk.new) }
     ensures disk { IsFalse (needs_disk (meant command.now)) → disk.new ≡ disk.old }
-    ensures files { ChangesOnly Nothing Nothing (D.view disk.old) (D.view disk.new) }
+    ensures files { IsFalse (makes_files (meant command.now)) → ChangesOnly Nothing Nothing (D.view disk.old) (D.view disk.new) }
 {
     match command {
         Command::Verify(judged) => run_verify(alloc, judged, out),
+        Command::MakePlot(making) => run_plot(alloc, making, disk, out),
         Command::Prove(question) => run_prove(alloc, question, disk, out),
         Command::Quality(question) => run_quality(alloc, question, disk, out),
         Command::Inspect(file) => run_inspect(alloc, file, disk, out),
+        Command::CheckPlot(test) => run_check(alloc, test, disk, out),
+        Command::Survey(made) => run_survey(alloc, made, disk, out),
     }
 }
 
@@ -211,29 +234,30 @@ fn run_quality<D: Disk, S: Sink>(
     }
 }
 
-// Says why a command on a plot file has nothing to show.
-fn say_refusal<S: Sink>(alloc: Global, file: &str, refusal: &Refusal, out: &mut S) -> u8
+// Says the summary of a plot file that is tested, or why there is none.
+fn run_check<D: Disk, S: Sink>(alloc: Global, test: &Test<'_>, disk: &mut D, out: &mut S) -> u8
+    requires { test.now.challenges ≤ 1000000 }
+    ensures summary { SaysCheck test.now.file.now test.now.challenges (D.view disk.old) (D.view disk.new) result (S.heard out.old) (S.heard out.new) }
+    ensures faults { TellsFaults result (D.view disk.old) (D.view disk.new) }
+    ensures files { ChangesOnly Nothing Nothing (D.view disk.old) (D.view disk.new) }
+{
+    match checked_text(alloc, test.file, test.challenges, disk) {
+        Ok(text) => say(out, text.as_bytes(), DONE),
+        Err(refusal) => say_refusal(alloc, test.file, &refusal, out),
+    }
+}
+
+/// Says why a command on a plot file has nothing to show.
+pub fn say_refusal<S: Sink>(alloc: Global, file: &str, refusal: &Refusal, out: &mut S) -> u8
     ensures said { SaysRefusal file.now refusal.now result (S.heard out.old) (S.heard out.new) }
     ensures disk_fault { result ≡ disk_fault_status → refusal.now ≡ Refusal.DiskFailed }
     ensures quiet { result ≢ disk_fault_status → result ≢ sink_fault_status → refusal.now ≢ Refusal.DiskFailed }
 {
     match refusal {
-        Refusal::Absent => say_text(absent_line(alloc, file), out, ABSENT),
+        Refusal::Absent => say_text(absent_line(alloc, file), out, NAME),
         Refusal::DiskFailed => say(out, DISK_FAULT_LINE, DISK_FAULT),
         Refusal::Damage(damage) => say_text(damage_line(alloc, damage), out, DAMAGE),
         Refusal::Memory => OUT_OF_MEMORY,
-    }
-}
-
-// Writes a text for which there was memory.
-fn say_text<S: Sink>(text: Result<String, AllocError>, out: &mut S, status: u8) -> u8
-    ensures said { IfOk text (λ line. Speaks status (string_bytes line) result (S.heard out.old) (S.heard out.new)) }
-    ensures unsaid { OnErr text (IsUnsaid result (S.heard out.old) (S.heard out.new)) }
-    ensures ends { EndsWith status result }
-{
-    match text {
-        Ok(line) => say(out, line.as_bytes(), status),
-        Err(_) => OUT_OF_MEMORY,
     }
 }
 
@@ -244,15 +268,4 @@ fn status_of(verdict: &Verdict) -> u8
     ensures refused { (IsAcceptance verdict.now → ⊥) → result ≡ refused_status }
 {
     if verdict.is_accepted() { DONE } else { REFUSED }
-}
-
-// Writes a text and answers the status, or that of a sink that failed.
-fn say<S: Sink>(out: &mut S, text: &[u8], status: u8) -> u8
-    ensures said { Speaks status text.now result (S.heard out.old) (S.heard out.new) }
-    ensures ends { (result ≡ status) ⊎ (result ≡ sink_fault_status) }
-{
-    match out.put(text) {
-        Ok(()) => status,
-        Err(_) => SINK_FAULT,
-    }
 }

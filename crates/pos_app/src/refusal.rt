@@ -1,11 +1,11 @@
 // Why a command on a plot file has nothing to show.
 ghost use Rattle.std.specs.Prelude.{◌≡◌};
 ghost use Rattle.pos_app.specs.declared.refusal.Refusal.TheVariants.{Memory};
-ghost use Rattle.pos_app.specs.Refused.{refusal_of, list_refusal};
+ghost use Rattle.pos_app.specs.Refused.{refusal_of, list_refusal, read_refusal};
 
 use pos_harvest::ListRefusal;
 use pos_layout::Damage;
-use pos_reader::OpenRefusal;
+use pos_reader::{OpenRefusal, ReadRefusal};
 use std::alloc::AllocError;
 
 /// Why a command on a plot file has nothing to show.
@@ -39,6 +39,17 @@ impl From<ListRefusal> for Refusal {
             ListRefusal::DiskFailed => Refusal::DiskFailed,
             ListRefusal::Damage(damage) => Refusal::Damage(damage),
             ListRefusal::Memory => Refusal::Memory,
+        }
+    }
+}
+
+impl From<ReadRefusal> for Refusal {
+    ghost from_gives = { λ refusal result. result ≡ read_refusal refusal };
+
+    fn from(refusal: ReadRefusal) -> Refusal {
+        match refusal {
+            ReadRefusal::DiskFailed => Refusal::DiskFailed,
+            ReadRefusal::Damage(damage) => Refusal::Damage(damage),
         }
     }
 }

@@ -4,11 +4,13 @@ ghost use Rattle.pos_reader.specs.Readings.{IsPlotOpened};
 ghost use Rattle.pos_app.specs.FileAnswers.{IsOpeningDamage};
 ghost use Rattle.pos_app.specs.InspectAnswers.{IsHeaderText};
 ghost use Rattle.pos_app.specs.ListAnswers.{IsProofsText, IsQualitiesText, IsProveDamage, IsQualityDamage};
+ghost use Rattle.pos_app.specs.CheckAnswers.{IsCheckedText, IsCheckDamage};
 ghost use Rattle.pos_app.specs.Refused.{Finds};
 
 use crate::list_text::{proofs_text, qualities_text};
 use crate::refusal::Refusal;
-use crate::text::inspect_text;
+use crate::text::{checked_line, inspect_text};
+use pos_check::check;
 use pos_edge::Disk;
 use pos_harvest::{list_proofs, list_qualities};
 use pos_reader::Plot;
@@ -57,4 +59,19 @@ pub fn listed_qualities<D: Disk>(
     let mut plot = open_plot(alloc, file, disk)?;
     let qualities = list_qualities(alloc, &mut plot, disk, challenge)?;
     Ok(qualities_text(alloc, qualities.as_slice())?)
+}
+
+/// The line of the summary of a plot file that is tested by so many challenges.
+pub fn checked_text<D: Disk>(
+    alloc: Global,
+    file: &str,
+    challenges: u32,
+    disk: &mut D,
+) -> Result<String, Refusal>
+    requires { challenges ≤ 1000000 }
+    ensures { Finds (λ text. IsCheckedText file.now challenges (D.view disk.old) (D.view disk.new) (string_bytes text)) (IsCheckDamage challenges) file.now result (D.view disk.old) (D.view disk.new) }
+{
+    let mut plot = open_plot(alloc, file, disk)?;
+    let summary = check(&mut plot, disk, challenges)?;
+    Ok(checked_line(alloc, &summary)?)
 }

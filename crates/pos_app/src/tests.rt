@@ -1,6 +1,9 @@
+mod checks;
 mod inspect;
 mod lists;
+mod plotting;
 mod search;
+mod surveys;
 
 use crate::run;
 use pos_edge::{MemoryDisk, MemorySink};
@@ -92,10 +95,17 @@ fn refusals_name_the_first_failing_test(rt: HostRuntime) -> Result<(), Fail> {
 #[test]
 fn words_that_are_no_command_answer_the_usage_line(rt: HostRuntime) -> Result<(), Fail> {
     let alloc = rt.alloc();
-    let words: [&[&str]; 21] = [
+    let words: [&[&str]; 28] = [
         &[],
         &["verify"],
-        &["plot", ID, "10", "p", "s"],
+        &["plot", ID, "10", "p"],
+        &["plot", ID, "10", "s.0", "s"],
+        &["plot", ID, "10", "s.", "s"],
+        &["plot", ID, "10", "", "s"],
+        &["plot", ID, "10", "p", "-s"],
+        &["plot", ID, "33", "p", "s"],
+        &["plot", &ID[1..], "10", "p", "s"],
+        &["plot", ID, "10", "p", "s", ""],
         &["verify", ID, "9", ID, ""],
         &["verify", ID, "33", ID, ""],
         &["verify", ID, "018", ID, ""],

@@ -1,7 +1,11 @@
 // The lines that the program writes.
 ghost use Rattle.std.specs.Prelude.{◌≡◌, ◌++◌, IfOk, OnOk, string_bytes};
-ghost use Rattle.pos_app.specs.Texts.{verdict_line, inspect_text, header_lines, id_line, size_line, table_line, length_line, absent_line, damage_line, field_name};
+ghost use Rattle.pos_edge.specs.ScratchNames.{scratch_name};
+ghost use Rattle.pos_app.specs.SurveyAnswers.{survey_text};
+ghost use Rattle.pos_app.specs.Texts.{verdict_line, plotted_line, exists_line, full_line, scratch_line, inspect_text, header_lines, id_line, size_line, table_line, length_line, checked_line, absent_line, damage_line, field_name};
 
+use pos_check::Summary;
+use pos_edge::ScratchDamage;
 use pos_layout::{Damage, HeaderField};
 use pos_reader::Plot;
 use pos_tuple::Id;
@@ -28,6 +32,53 @@ pub fn verdict_line(alloc: Global, verdict: &Verdict) -> Result<String, AllocErr
             format!(in alloc; "refused challenge {want} {found}\n")
         }
     }
+}
+
+/// The line of a plot of size k that was made, with the counts of its tables.
+pub fn plotted_line(alloc: Global, k: u32, counts: &[u64; 7]) -> Result<String, AllocError>
+    ensures { IfOk result (λ line. string_bytes line ≡ plotted_line k counts.now) }
+{
+    let [first, second, third, fourth, fifth, sixth, seventh] = *counts;
+    let rest = format!(in alloc; "{fourth} {fifth} {sixth} {seventh}\n")?;
+    format!(in alloc; "plotted {k} {first} {second} {third} {rest}")
+}
+
+/// The line of a name that was to be made and is there.
+pub fn exists_line(alloc: Global, name: &str) -> Result<String, AllocError>
+    ensures { IfOk result (λ line. string_bytes line ≡ exists_line name.now) }
+{
+    format!(in alloc; "exists {name}\n")
+}
+
+/// The line of a scratch file that was to be made and is there.
+pub fn scratch_exists_line(alloc: Global, base: &str, number: u32) -> Result<String, AllocError>
+    ensures { IfOk result (λ line. string_bytes line ≡ exists_line (scratch_name base.now number)) }
+{
+    let name = format!(in alloc; "{base}.{number}")?;
+    exists_line(alloc, name.as_str())
+}
+
+/// The line of a table that has too many entries.
+pub fn full_line(alloc: Global, table: u8) -> Result<String, AllocError>
+    ensures { IfOk result (λ line. string_bytes line ≡ full_line table) }
+{
+    format!(in alloc; "table full {table}\n")
+}
+
+/// The line of a record that was read back out of its range.
+pub fn scratch_line(alloc: Global, damage: &ScratchDamage) -> Result<String, AllocError>
+    ensures { IfOk result (λ line. string_bytes line ≡ scratch_line damage.now) }
+{
+    let ScratchDamage {
+        file,
+        at,
+        found,
+        least,
+        limit,
+    } = damage;
+    let place = format!(in alloc; "{at}:")?;
+    let range = format!(in alloc; "{least}..{limit}")?;
+    format!(in alloc; "scratch {file} record {place} {found} outside {range}\n")
 }
 
 /// The lines of an open plot: its id, its size, the counts of its tables and the length of its file.
@@ -95,6 +146,34 @@ fn push_length(alloc: Global, text: &mut String, length: u64) -> Result<(), Allo
 
 /// What is said where the disk failed.
 pub const DISK_FAULT_LINE: &[u8; 11] = b"disk fault\n";
+
+/// The line of a summary.
+pub fn checked_line(alloc: Global, summary: &Summary) -> Result<String, AllocError>
+    ensures { IfOk result (λ line. string_bytes line ≡ checked_line summary.now.challenges summary.now.proofs summary.now.digest) }
+{
+    let Summary {
+        challenges,
+        proofs,
+        ..
+    } = *summary;
+    let digest = hex::encode(alloc, &summary.digest[..])?;
+    format!(in alloc; "checked {challenges} proofs {proofs} digest {digest}\n")
+}
+
+/// The line of a plot that was made, and that of its summary.
+pub fn survey_text(
+    alloc: Global,
+    k: u32,
+    counts: &[u64; 7],
+    summary: &Summary,
+) -> Result<String, AllocError>
+    ensures { IfOk result (λ text. string_bytes text ≡ survey_text k counts.now summary.now) }
+{
+    let mut text = plotted_line(alloc, k, counts)?;
+    let line = checked_line(alloc, summary)?;
+    text.push_str(line.as_str())?;
+    Ok(text)
+}
 
 /// The line of a name that no file has.
 pub fn absent_line(alloc: Global, name: &str) -> Result<String, AllocError>
