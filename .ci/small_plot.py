@@ -1,11 +1,12 @@
 #!/usr/bin/env python3
 """Writes the plot file of the id of zeros at size 12, by plain loops that share nothing with the program, and beside it
-what `prove`, `quality` and `verify` have to write for some challenges.
+what `prove`, `quality` and `verify` have to write for some challenges, and `check` for its own.
 
     small_plot.py FOLDER
 
 FOLDER/plot12 is the file. FOLDER/rows has a line for each challenge: the challenge, and the names of two files, of the text
 of `prove` and of that of `quality`. FOLDER/proofs has a line for each proof of the rows: challenge, proof, quality.
+FOLDER/check.N is the text of `check` with N challenges.
 """
 import hashlib
 import struct
@@ -68,6 +69,17 @@ def quality(challenge, values):
     return SPACE.pair_quality(challenge, *plot_order(values)[pair : pair + 2])
 
 
+def summary(by_f7, n):
+    """The text of `check` with n challenges."""
+    rated = []
+    for i in range(n):
+        challenge = hashlib.sha256(struct.pack(">I", i) + ID).digest()
+        f7 = int.from_bytes(challenge[:4], "big") >> (32 - K)
+        rated += [quality(challenge, values) for values in by_f7[f7]]
+    digest = hashlib.sha256(bytes.fromhex("".join(rated))).hexdigest()
+    return f"checked {n} proofs {len(rated)} digest {digest}\n"
+
+
 def main(folder):
     found = found_tuples()
     with open(f"{folder}/plot12", "wb") as out:
@@ -91,6 +103,9 @@ def main(folder):
                     out.write("".join(text + "\n" for text in texts) + f"{count} {noun}\n")
             rows.append(f"{challenge.hex()} prove.{name} quality.{name}\n")
             proofs += [f"{challenge.hex()} {proof} {rated}\n" for proof, rated in zip(lines, qualities)]
+    for n in [0, 1, 100, 300]:
+        with open(f"{folder}/check.{n}", "w") as out:
+            out.write(summary(by_f7, n))
     with open(f"{folder}/rows", "w") as out:
         out.writelines(rows)
     with open(f"{folder}/proofs", "w") as out:
