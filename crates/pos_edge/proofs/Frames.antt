@@ -2,7 +2,7 @@
 use Rattle.std.proofs.Common.{ℕ, ◌≤◌, ◌≡◌, ◌↔◌, true, List, Option, refl, sym, ◌∙◌, subst, inl, inr, arith}
 use Rattle.std.proofs.lemmas.Bool.{cases_lt}
 use Rattle.pos_edge.specs.View.{View}
-use Rattle.pos_edge.specs.Frame.{ChangesOnly, ChangesFile, FileBeside, IsUntouched, Nothing, Just, NameOf}
+use Rattle.pos_edge.specs.Frame.{ChangesOnly, ChangesFile, FileBeside, Nothing, Just, NameOf}
 use Rattle.pos_edge.specs.Images.{EachImage, ImagesBy}
 
 iff_then : {A B C : Type 0} → (A ↔ B) → (B ↔ C) → A ↔ C
@@ -101,7 +101,3 @@ file_beside names ids file a b p live apart other = record {
   contents = λ n is. p.contents n (other n is);
   images = λ n t i is from to. p.images n t i (other n is) from to;
 }
-
--- nothing changed, or an outside of the frame: untouched is a frame of any names
-pub untouched_frame : (names : List ℕ → Type 0) (ids : ℕ → Type 0) (a b : View) → IsUntouched a b → ChangesOnly names ids a b
-untouched_frame names ids a b u = frame_wider names Nothing ids Nothing a b (λ n x. absurd x) (λ f l x. absurd x) u.kept

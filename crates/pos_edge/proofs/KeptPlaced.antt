@@ -1,5 +1,5 @@
 -- A synced file that is put there, and a file that is replayed.
-use Rattle.std.proofs.Common.{ℕ, ◌+◌, ◌^◌, ◌≤◌, ◌<◌, ◌≡◌, ◌⊎◌, ◌==◌, true, false, List, [], ◌∷◌, ◌++◌, length, get_or, set, map, take, fold, All, Option, Some, None, string_bytes, count_by, refl, sym, ap, ◌∙◌, subst, inl, inr, arith, append-nil}
+use Rattle.std.proofs.Common.{ℕ, ◌+◌, ◌≤◌, ◌<◌, ◌≡◌, ◌==◌, true, false, List, [], ◌∷◌, ◌++◌, length, get_or, set, map, fold, All, Option, None, string_bytes, count_by, refl, sym, ap, ◌∙◌, subst, inl, inr, arith, append-nil}
 use Rattle.std.specs.Prelude.{option_map}
 use Rattle.std.specs.declared.string.String.{String}
 use Rattle.std.specs.declared.alloc.Global.{Global}
@@ -13,11 +13,10 @@ use Rattle.pos_edge.specs.declared.doubles.history.Deed.TheVariants.{Made, Synce
 use Rattle.pos_edge.specs.declared.doubles.history.Entry.{Entry}
 use Rattle.pos_edge.specs.declared.doubles.history.Handle.{Handle}
 use Rattle.pos_edge.specs.declared.doubles.history.MemoryFile.{MemoryFile}
-use Rattle.pos_edge.specs.declared.doubles.history.Replay.{Replay}
 use Rattle.pos_edge.specs.Images.{written}
-use Rattle.pos_edge.specs.Log.{Making, Writing, Syncing, File, NameState, state_of, contents_of, bytes_of, written_all, acted, happened, never}
+use Rattle.pos_edge.specs.Log.{Making, Writing, Syncing, NameState, state_of, contents_of, bytes_of, acted, happened, never}
 use Rattle.pos_edge.specs.MemoryDisks.{HistoryState, holds, placed_in, image_after}
-use Rattle.pos_edge.specs.Histories.{Cache, cache_of, no_file, act_of, event_of, IsCached, is_live, is_dirty, HoldsTogether, made_file, written_file, synced_file, placed_file, seen_at, IsReplayedFile}
+use Rattle.pos_edge.specs.Histories.{Cache, cache_of, no_file, act_of, event_of, IsCached, is_live, is_dirty, HoldsTogether, made_file, written_file, synced_file, placed_file, seen_at}
 use Rattle.pos_edge.specs.MemoryLaws.{holds_bytes, length-written_ge}
 use Rattle.pos_edge.proofs.Events.{happened-other, happened-own, file_none}
 use Rattle.pos_edge.proofs.Kept.{map-set_at, same_history, IsCached-made, IsCached-written, IsCached-synced, kept_there, kept_absent}
@@ -157,12 +156,6 @@ module _ (names : List (List ℕ)) (slot : ℕ) (within : slot < length names) (
   all_seen (e ∷ es) s inside =
       ap (λ t. fold (happened (get_or names slot [])) t (map (event_of names) es)) (one_seen s e (All-head (λ entry. entry.slot < length names) e es inside))
       ∙ all_seen es (seen_at slot s e) (All-tail (λ entry. entry.slot < length names) e es inside)
-
--- what was replayed is the image
-replayed : (writes : ℕ) (o : Option File) (r : Replay) → writes < 2 ^ 64 → IsReplayedFile writes o r
-    → ((r.there ≡ false) × (o ≡ None)) ⊎ ((file : File) × (o ≡ Some file) × (r.there ≡ true) × (r.synced ≡ file.synced) × (r.shown.items ≡ written_all (take writes file.writes) file.base))
-replayed writes None r small is = inl (is, refl)
-replayed writes (Some file) r small is = inr (file, refl, is.0, is.1, is.4)
 
 -- the image of a name by the replay of its place
 module _ (h₀ : HistoryState) (names : List (String Global)) (files : List MemoryFile) (entries : List Entry) (handles : List Handle) (cap : ℕ)

@@ -7,8 +7,8 @@ use Rattle.pos_edge.specs.declared.scratch.ScratchFile.{ScratchFile}
 use Rattle.pos_edge.specs.View.{View, IsDisk}
 use Rattle.pos_edge.specs.Frame.{ChangesOnly, KeepsIds, Nothing, Just, NameOf}
 use Rattle.pos_edge.specs.Calls.{IsCreated, IsGone, IsAsItWasOrGone}
-use Rattle.pos_edge.specs.ScratchNames.{ScratchState, scratch_name, next_name, with_file, without_file, IsLeft, StandsOn, SameOrGone, AreGone}
-use Rattle.pos_edge.specs.ScratchWork.{IsNameBetween, AreLeftOrGone, IsScratchWork, IsScratchDone}
+use Rattle.pos_edge.specs.ScratchNames.{ScratchState, scratch_name, next_name, with_file, without_file, IsLeft, StandsOn}
+use Rattle.pos_edge.specs.ScratchWork.{IsNameBetween, IsScratchWork, IsScratchDone}
 use Rattle.pos_edge.proofs.Frames.{frame_none, frame_then, frame_wider}
 use Rattle.pos_edge.proofs.ScratchFiles.{Stand-kept, same_number, same_or_gone, scratch_name-same}
 
@@ -175,14 +175,6 @@ work_wider names first ids first_ids s t a b n1 i1 p = record {
   left = p.left;
 }
 
-pub done_wider : (names first : List ℕ → Type 0) (ids first_ids : ℕ → Type 0) (s t : ScratchState) (a b : View) → ((n : List ℕ) → first n → names n) → ((f : ℕ) → a.is_live f ≡ true → first_ids f → ids f)
-    → IsScratchDone first first_ids s t a b → IsScratchDone names ids s t a b
-done_wider names first ids first_ids s t a b n1 i1 p = record {
-  kept = frame_wider names first ids first_ids a b n1 i1 p.kept;
-  absent = p.absent;
-  gone = p.gone;
-}
-
 -- a call that leaves the `Scratch` and the life and name of each FileId, as a write or a read of any file
 pub work_beside : (names : List ℕ → Type 0) (ids : ℕ → Type 0) (s : ScratchState) (a b : View) → ChangesOnly names ids a b → KeepsIds Nothing a b → IsScratchWork names ids s s a b
 work_beside names ids s a b kept same = record {
@@ -261,10 +253,3 @@ done_removed s file a b disk stands kept as_was is_gone = record {
       | inl told ↦ (is_gone (scratch_name s.base m) (subst (λ n. NameOf file a (scratch_name s.base n)) is (subst (λ f. NameOf f a (scratch_name s.base x.number)) same (subst (λ (y : ScratchFile). NameOf y.file.0 a (scratch_name s.base y.number)) e (stands.named told k x h))))).0
     ])
   ]
-
--- after `clear` none of the files that the `Scratch` made is there
-pub all_gone : (s : ScratchState) (a b : View) → AreLeftOrGone s a → SameOrGone a b → AreGone s b → (m : ℕ) → m < s.made → b.contents (scratch_name s.base m) ≡ None
-all_gone s a b left_or_gone same gone m h = elim (left_or_gone m h) [
-  | inl (k, x, within, e, is) ↦ subst (λ n. b.contents (scratch_name s.base n) ≡ None) is (subst (λ (y : ScratchFile). b.contents (scratch_name s.base y.number) ≡ None) e (gone k x within))
-  | inr none ↦ elim (same (scratch_name s.base m)) [ inl as_was ↦ as_was ∙ none | inr now ↦ now ]
-]

@@ -19,6 +19,3 @@ pub use sink::{PutFailed, Sink};
 /// What a call answers that needed more memory than there was.
 #[derive(Clone, Copy, Debug, PartialEq, Eq)]
 pub struct Memory;
-
-#[cfg(test)]
-mod tests;

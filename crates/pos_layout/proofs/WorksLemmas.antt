@@ -1,9 +1,9 @@
 -- Calls that write one file, one after another, and a writer while other files change.
 use Rattle.std.proofs.Common.{◌≡◌, ℕ, ◌≤◌, true, List, [], ◌++◌, length, Option, Some, Result, Ok, Err, refl, sym, ap, ◌∙◌, subst, arith, append-nil, append_assoc}
 use Rattle.std.specs.Prelude.{is_ok}
-use Rattle.std.proofs.lemmas.Bool.{false≢true, true≢false}
+use Rattle.std.proofs.lemmas.Bool.{true≢false}
 use Rattle.pos_edge.specs.declared.scratch.WorkFault.{WorkFault}
-use Rattle.pos_edge.specs.declared.scratch.WorkFault.TheVariants.{DiskFailed, Memory}
+use Rattle.pos_edge.specs.declared.scratch.WorkFault.TheVariants.{DiskFailed}
 use Rattle.pos_edge.specs.View.{View}
 use Rattle.pos_edge.specs.Frame.{ChangesOnly, ChangesFile, FileBeside, KeepsIds, Nothing, Just, NameOf}
 use Rattle.pos_edge.specs.Images.{written, Tears, Stays}
@@ -96,29 +96,6 @@ ids_none v = record { live = λ f k. refl; name = λ f k. refl }
 -- the images of a file with a closed gate that nothing changes
 pub shut_still : (file : ℕ) (b : List ℕ) (v : View) → HoldsShut file b v → EachImageOf IsShut file v v
 shut_still file b v held = λ name is. each_beside name IsShut Nothing Nothing v v (frame_none Nothing Nothing v) (λ x. x) (λ i img. held.images name i is img)
-
--- want of memory before the disk was called, and an answer without a call
-pub works_memory : (X : Type 0) (file : ℕ) (b : List ℕ) (v : View) → HoldsShut file b v → Works {X = X} IsShut file (Err Memory) v v
-works_memory X file b v held = record {
-  kept = file_none file v held.bytes.live;
-  ids = ids_none v;
-  reads = refl;
-  images = shut_still file b v held;
-  fault = tt;
-  failed = λ is. absurd (false≢true cc);
-  quiet = λ other. refl;
-}
-
-pub works_still : {X : Type 0} (file : ℕ) (b : List ℕ) (x : X) (v : View) → HoldsShut file b v → Works IsShut file (Ok x) v v
-works_still file b x v held = record {
-  kept = file_none file v held.bytes.live;
-  ids = ids_none v;
-  reads = refl;
-  images = shut_still file b v held;
-  fault = tt;
-  failed = λ is. absurd (true≢false (ap (λ r. is_ok r) is));
-  quiet = refl;
-}
 
 -- ---- one file, over many calls
 

@@ -313,14 +313,6 @@ next_fits l w p v n s h =
     let most : 2 ^ (2 * w.size + 2) ≤ 2 ^ 66 = pow_mono width in
     omega arith
 
-pub count_fits : (l : Layout) (w : WriterState) (p : Draft) (v : View) (n : ℕ) → Stands l w p v → n < 2 ^ (w.size + 1) → n < 2 ^ 33
-count_fits l w p v n s h =
-    let small = s.keeps.draft.greatest in
-    let size = s.keeps.size in
-    let width : w.size + 1 ≤ 33 = omega arith in
-    let most : 2 ^ (w.size + 1) ≤ 2 ^ 33 = pow_mono width in
-    omega arith
-
 -- ---- the end
 
 no_parks : (full : ℕ) (parks : List (List ℕ)) (rest : List ℕ) → 1 ≤ full → All (λ (ns : List ℕ). length ns ≡ full) parks → concat parks ++ rest ≡ [] → parks ≡ []

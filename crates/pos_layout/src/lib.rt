@@ -17,6 +17,3 @@ pub use header::{
 };
 pub use layout::{longest_park, park_count, park_digest, parks_of};
 pub use writer::PlotWriter;
-
-#[cfg(test)]
-mod tests;

@@ -1,9 +1,9 @@
 -- Lists of one base past a read of one of them and a push on another.
-use Rattle.std.proofs.Common.{◌≡◌, ◌≢◌, ℕ, suc, ◌+◌, Bool, true, false, List, Option, [], ◌∷◌, ◌++◌, take, length, Some, refl, sym, ap, ◌∙◌, subst, arith, append_assoc, append-nil}
+use Rattle.std.proofs.Common.{◌≡◌, ◌≢◌, ℕ, suc, ◌+◌, Bool, true, false, List, Option, [], ◌∷◌, ◌++◌, take, length, Some, refl, sym, ap, ◌∙◌, subst, arith, append_assoc}
 use Rattle.std.specs.Prelude.{slice_get, IsSome}
 use Rattle.std.proofs.lemmas.Bool.{false≢true}
 use Rattle.std.proofs.Math.Seq.{take-suc}
-use Rattle.std.proofs.lemmas.List.{get_or_push, length_push, take_all}
+use Rattle.std.proofs.lemmas.List.{get_or_push, length_push}
 use Rattle.std.proofs.lemmas.Option.{get_or_from_slice_get, slice_get_within}
 use Rattle.pos_edge.specs.View.{View, IsDisk}
 use Rattle.pos_edge.specs.Frame.{ChangesOnly, Nothing, ReadsOnly, SameFaults}
@@ -87,21 +87,6 @@ pub record AreCopied (k n : ℕ) (from0 from to0 to : ListPages) (start now : Vi
   pub kept : (base : List ℕ) (xs ys : List Pair) → ListKept base (pair_read k) (pair_width k) from0 xs start → ListKept base (pair_read k) (pair_width k) to0 ys start
       → (zs : List Pair) × ListKept base (pair_read k) (pair_width k) from xs now × ListKept base (pair_read k) (pair_width k) to zs now × (start.tells ≡ true → zs ≡ ys ++ take n xs)
 
-pub copied-none : (k : ℕ) (s t : ListPages) (a : View) → s.is_sealed ≡ true → ListStands (pair_width k) s a → t.is_sealed ≡ false → ListStands (pair_width k) t a → AreCopied k 0 s s t t a a
-copied-none k s t a sealed from_stands unsealed to_stands = record {
-  from_stands = from_stands;
-  sealed = sealed;
-  from_count = refl;
-  from_number = refl;
-  to_stands = to_stands;
-  unsealed = unsealed;
-  to_count = omega arith;
-  to_number = refl;
-  quiet = refl;
-  tells = refl;
-  kept = λ base xs ys from to. (ys, from, to, λ tells. sym (append-nil ys));
-}
-
 -- one more pair at the end of those that were taken
 pub take-one_more : (xs : List Pair) (n : ℕ) (item : Pair) → slice_get xs n ≡ Some item → take n xs ++ item ∷ [] ≡ take (suc n) xs
 take-one_more xs n item is = sym (take-suc xs n item (slice_get_within xs n item is) ∙ ap (λ x. take n xs ++ x ∷ []) (get_or_from_slice_get xs n item item is))
@@ -141,14 +126,6 @@ copied-more k n s0 s r t0 t u item start a b c disk other got stands holds value
   longer xs ys zs is at =
       let next : n + 1 ≡ suc n = omega arith in
       ap (λ l. l ++ item ∷ []) is ∙ append_assoc ys (take n xs) (item ∷ []) ∙ ap (λ l. ys ++ l) (take-one_more xs n item at ∙ ap (λ m. take m xs) (sym next))
-
--- all pairs
-pub copied-all : (base : List ℕ) (k : ℕ) (s0 s t0 t : ListPages) (xs ys : List Pair) (start now : View) → AreCopied k s0.count s0 s t0 t start now
-    → ListKept base (pair_read k) (pair_width k) s0 xs start → ListKept base (pair_read k) (pair_width k) t0 ys start → start.tells ≡ true → ListKept base (pair_read k) (pair_width k) t (ys ++ xs) now
-copied-all base k s0 s t0 t xs ys start now h from to tells =
-    let done : (zs : List Pair) × ListKept base (pair_read k) (pair_width k) s xs now × ListKept base (pair_read k) (pair_width k) t zs now × (start.tells ≡ true → zs ≡ ys ++ take s0.count xs) = h.kept base xs ys from to in
-    let long = from.holds.count in
-    subst (λ (zs : List Pair). ListKept base (pair_read k) (pair_width k) t zs now) (done.3 tells ∙ ap (λ l. ys ++ l) (take_all s0.count xs (omega arith))) done.2
 
 -- a file that was just made can be removed
 pub made-left : (s : ScratchState) (file : ℕ) → IsLeft (with_file s file) file

@@ -2,7 +2,8 @@
 //! another, and eight lists of which one is read and one is pushed on. They show what a caller pays for its lists: one
 //! line of proof for each.
 //!
-//! The tests try each kind of record at four sizes, and each failing call of a list's life.
+//! The tests try each kind of record at four sizes, lists of any number of pages and each failing call of a list's life, and
+//! marked places at both ends of a page.
 //! Source: this project's own.
 #![tactic(auto)]
 
@@ -12,5 +13,11 @@ mod eight;
 pub use copy::copy_pairs;
 pub use eight::EightLists;
 
+#[cfg(test)]
+mod client;
+#[cfg(test)]
+mod list_tests;
+#[cfg(test)]
+mod mark_tests;
 #[cfg(test)]
 mod tests;

@@ -56,10 +56,6 @@ marked_new m name a b made few unsealed zeros room none = record {
   pages = λ sealed. absurd (false≢true (sym unsealed ∙ sealed));
 }
 
-or_true : (b : Bool) → (b || true) ≡ true
-or_true true = refl
-or_true false = refl
-
 placed : (i j n : ℕ) (p : ℕ → Bool) → i < n → ((k : ℕ) → p k ≡ true → k < n) → with_place i p j ≡ true → j < n
 placed i j n p h inside e = elim (cases_eq j i) [
   | inl same ↦ omega arith

@@ -1,6 +1,6 @@
 -- Pages written from the start of a file on.
-use Rattle.std.proofs.Common.{◌≡◌, ℕ, ◌+◌, ◌*◌, ◌/◌, ◌%◌, ◌≤◌, true, List, ◌++◌, length, take, drop, is_some, refl, sym, ap, ◌∙◌, subst, arith, length-append}
-use Rattle.std.proofs.lemmas.List.{take_at, take_all, take-take, take-append-drop, length-take-le}
+use Rattle.std.proofs.Common.{◌≡◌, ℕ, ◌+◌, ◌*◌, ◌≤◌, true, List, ◌++◌, length, take, drop, is_some, refl, sym, ap, ◌∙◌, arith, length-append}
+use Rattle.std.proofs.lemmas.List.{take_at, take-take, take-append-drop, length-take-le}
 use Rattle.std.proofs.lemmas.List.Edits.{length-between}
 use Rattle.std.proofs.lemmas.Slice.{between_is}
 use Rattle.std.proofs.lemmas.Option.{same_Some}
@@ -83,12 +83,3 @@ written_more file n bytes piece a b c disk fits h live is kept ids reads quiet w
       let full : length (take (65536 * (n + 1)) bytes) ≡ at + 65536 = length-take-le (65536 * (n + 1)) bytes fits ∙ more in
       ap (λ k. take k held) full ∙ (ap (take (at + 65536)) e ∙ (written_front at 65536 piece bytes there.0 (omega arith) within is was ∙ ap (λ k. take k bytes) (sym more)));
 }
-
--- all pages
-pub written_all : (file n : ℕ) (bytes : List ℕ) (a b : View) → n ≡ length bytes / 65536 → length bytes % 65536 ≡ 0 → WrittenTo file n bytes a b
-    → (length bytes ≤ b.size_of file) × BeginsWith file bytes b
-written_all file n bytes a b e whole h =
-    let len : 65536 * n ≡ length bytes = omega arith in
-    let all : take (65536 * n) bytes ≡ bytes = take_all (65536 * n) bytes (omega arith) in
-    let size = h.size in
-    (omega arith, subst (λ xs. BeginsWith file xs b) all h.front)

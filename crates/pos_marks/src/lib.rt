@@ -12,6 +12,3 @@ mod pages;
 mod set;
 
 pub use set::Marks;
-
-#[cfg(test)]
-mod tests;

@@ -1,7 +1,7 @@
 -- Marks of a level, and tables with their kept places, past other calls.
 use Rattle.std.proofs.Common.{◌≡◌, ℕ, suc, ◌<◌, ◌≤◌, Bool, true, List, ltb, sym, ◌∙◌, subst, arith, lt-ltb, ltb-true}
 use Rattle.pos_edge.specs.View.{View, IsDisk}
-use Rattle.pos_edge.specs.Frame.{ChangesOnly, Nothing, ReadsOnly}
+use Rattle.pos_edge.specs.Frame.{ChangesOnly, Nothing}
 use Rattle.pos_edge.specs.FileSets.{IsOutside}
 use Rattle.pos_edge.specs.ScratchNames.{IsLeft, ScratchState, StandsOn}
 use Rattle.pos_edge.specs.ScratchWork.{IsNameBetween}
@@ -11,12 +11,11 @@ use Rattle.pos_lists.proofs.UsedLemmas.{inside_at_top, used_at_top}
 use Rattle.pos_marks.specs.declared.set.Marks.{Marks}
 use Rattle.pos_marks.specs.Marks.{marks_file, place_count}
 use Rattle.pos_marks.proofs.MarkLemmas.{marked_beside}
-use Rattle.pos_runs.specs.Runs.{IsTablesFile, TablesStand, TablesState, pages_at}
-use Rattle.pos_runs.proofs.TablesLemmas.{tables-outside}
-use Rattle.pos_prune.specs.KeptTables.{KeptStand, MarksStand}
+use Rattle.pos_runs.specs.Runs.{TablesStand, TablesState, pages_at}
+use Rattle.pos_prune.specs.KeptTables.{MarksStand}
 use Rattle.pos_prune.specs.Marking.{AreMarksMade}
 use Rattle.pos_prune.specs.Passes.{HasAsked, gives_below}
-use Rattle.pos_prune.proofs.MarkingLemmas.{left_last, left_not_new, outside_part}
+use Rattle.pos_prune.proofs.MarkingLemmas.{left_last, left_not_new}
 use Rattle.pos_prune.proofs.PassLemmas.{entries_count}
 
 -- ---- past any call
@@ -34,25 +33,6 @@ marks_outside s s' m level ts names ids a b kept out more h = record {
     λ tells. h.marks.2 (sym kept.tells ∙ tells),
   );
 }
-
--- tables with their kept places too
-pub kept_outside : (k : ℕ) (s s' : ScratchState) (t : TablesState) (m2 m3 m4 m5 m6 : Marks) (ts : TableLists) (names : List ℕ → Type 0) (ids : ℕ → Type 0) (a b : View) → ChangesOnly names ids a b
-    → IsOutside (IsLeft s) names ids a → ((f : ℕ) → IsLeft s f → IsLeft s' f) → KeptStand k s t m2 m3 m4 m5 m6 ts a → KeptStand k s' t m2 m3 m4 m5 m6 ts b
-kept_outside k s s' t m2 m3 m4 m5 m6 ts names ids a b kept out more h = record {
-  tables = tables-outside k t ts names ids a b kept (outside_part (IsLeft s) (IsTablesFile t) names ids a h.left out) h.tables;
-  left = λ f own. more f (h.left f own);
-  of_table_2 = marks_outside s s' m2 1 ts names ids a b kept out more h.of_table_2;
-  of_table_3 = marks_outside s s' m3 2 ts names ids a b kept out more h.of_table_3;
-  of_table_4 = marks_outside s s' m4 3 ts names ids a b kept out more h.of_table_4;
-  of_table_5 = marks_outside s s' m5 4 ts names ids a b kept out more h.of_table_5;
-  of_table_6 = marks_outside s s' m6 5 ts names ids a b kept out more h.of_table_6;
-}
-
--- and past reads of any file
-pub kept_read : (k : ℕ) (s : ScratchState) (t : TablesState) (m2 m3 m4 m5 m6 : Marks) (ts : TableLists) (a b : View) → ReadsOnly a b
-    → KeptStand k s t m2 m3 m4 m5 m6 ts a → KeptStand k s t m2 m3 m4 m5 m6 ts b
-kept_read k s t m2 m3 m4 m5 m6 ts a b reads h =
-    kept_outside k s s t m2 m3 m4 m5 m6 ts Nothing Nothing a b reads.kept (record { not_ids = λ f own may. may; not_names = λ f n own named may. may }) (λ f left. left) h
 
 -- ---- marks that were asked, or stand beside others that are made
 

@@ -217,14 +217,3 @@ fault_pass k n t fault s s' a b c few later told quiet stands h = record {
   damage = λ d e. (n, few, h.damage d e);
   never = λ d ts e before tells inside. h.never d ts e (stands ts before) (told ∙ tells) inside;
 }
-
--- it was not sealed
-pub fault_seal : (k : ℕ) (t : TablesState) (fault : WorkFault) (s s' : ScratchState) (a c d : View) → a.faults ≤ c.faults → SameFaults a c
-    → ((file : ℕ) → fault ≡ Exists file → ⊥) → ((x : ScratchDamage) → fault ≡ Scratch x → ⊥) → (fault ≡ DiskFailed → Rose c.faults d.faults) → ((fault ≡ DiskFailed → ⊥) → SameFaults c d) → IsMarkFault k t fault s s' a d
-fault_seal k t fault s s' a c d later quiet no_file no_damage failed still = record {
-  exists = λ file e. absurd (no_file file e);
-  failed = λ e. Rose-since a.faults c.faults d.faults later (failed e);
-  quiet = λ other. still other ∙ quiet;
-  damage = λ x e. absurd (no_damage x e);
-  never = λ x ts e h tells inside. no_damage x e;
-}

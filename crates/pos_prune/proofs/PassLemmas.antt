@@ -9,7 +9,7 @@ use Rattle.pos_edge.specs.View.{View}
 use Rattle.pos_edge.specs.Frame.{ReadsOnly, Nothing, SameFaults}
 use Rattle.pos_edge.specs.declared.scratch.ScratchDamage.{ScratchDamage}
 use Rattle.pos_edge.specs.declared.scratch.WorkFault.{WorkFault}
-use Rattle.pos_edge.specs.declared.scratch.WorkFault.TheVariants.{DiskFailed, Exists, Memory, Scratch}
+use Rattle.pos_edge.specs.declared.scratch.WorkFault.TheVariants.{Scratch}
 use Rattle.pos_edge.proofs.FaultLemmas.{Rose-since}
 use Rattle.pos_edge.proofs.Frames.{frame_then}
 use Rattle.pos_lists.specs.TableLists.{TableLists, PairsInside, entries, left_of, pairs_of, right_of}
@@ -17,7 +17,7 @@ use Rattle.pos_lists.specs.Places.{with_place}
 use Rattle.pos_lists.specs.Used.{NamedBelow}
 use Rattle.pos_lists.proofs.NamedLemmas.{a_pair_is_named, a_pair_is_passed_over}
 use Rattle.pos_marks.specs.declared.set.Marks.{Marks}
-use Rattle.pos_marks.specs.Marks.{AreSealed, AreUnsealed, Marked, SameMarks}
+use Rattle.pos_marks.specs.Marks.{AreUnsealed, Marked, SameMarks}
 use Rattle.pos_marks.proofs.MarkLemmas.{marked_reads}
 use Rattle.pos_marks.proofs.PageLemmas.{ids_then}
 use Rattle.pos_runs.specs.Lists.{IsListRead}
@@ -213,10 +213,6 @@ passed_on k n i t u above m0 m1 a b c only quiet is h = record {
       (after.0, after.1, λ tells x given named. after.2 (only.kept.tells ∙ tells) x (is x given tells) named);
 }
 
--- marks above while other reads are made
-pub asked_none : (m : Marks) (v : View) → AreSealed m → HasAsked m m v v
-asked_none m v sealed = record { same = record { places = refl; number = refl; file = refl }; sealed = sealed; marked = λ u h. h }
-
 pub asked_then : (m0 m1 m2 : Marks) (a b c : View) → HasAsked m0 m1 a b → HasAsked m1 m2 b c → HasAsked m0 m2 a c
 asked_then m0 m1 m2 a b c p q = record {
   same = record { places = q.same.places ∙ p.same.places; number = q.same.number ∙ p.same.number; file = q.same.file ∙ p.same.file };
@@ -246,18 +242,6 @@ fault_then k n t u fault a b c only quiet lists stands h = record {
   no_memory = h.no_memory;
   damage = λ d e. damage_then t u n d lists (h.damage d e);
   never = λ d ts e before tells inside. h.never d ts e (stands ts before) (only.kept.tells ∙ tells) inside;
-}
-
--- a read that failed
-pub fault_read : (k n : ℕ) (t : TablesState) (fault : WorkFault) (a b : View) → ReadsOnly a b → fault ≡ DiskFailed → Rose a.faults b.faults → IsPassFault k n t fault a b
-fault_read k n t fault a b only is rose = record {
-  only = only;
-  failed = λ e. rose;
-  quiet = λ other. absurd (other is);
-  no_file = λ f e. let both : DiskFailed ≡ Exists f = sym is ∙ e in cc;
-  no_memory = λ e. let both : DiskFailed ≡ Memory = sym is ∙ e in cc;
-  damage = λ d e. absurd (let both : DiskFailed ≡ Scratch d = sym is ∙ e in cc);
-  never = λ d ts e h tells inside. let both : DiskFailed ≡ Scratch d = sym is ∙ e in cc;
 }
 
 -- ---- an error that is handed on

@@ -3,7 +3,6 @@ use Rattle.std.proofs.Common.{◌≡◌, ℕ, ◌+◌, ◌-◌, ◌*◌, ◌/◌
 use Rattle.std.specs.Str.{bytes_eq}
 use Rattle.std.proofs.lemmas.Bool.{false≢true, cases_lt}
 use Rattle.std.proofs.lemmas.Bool.Decides.{nat_tests}
-use Rattle.std.proofs.lemmas.Slice.Eq.{bytes_eq-Decides}
 use Rattle.sha2.specs.Sha256.{sha256}
 use Rattle.pos_lists.specs.Pairs.{greater}
 use Rattle.pos_layout.proofs.LawsPoints.{inside_by_count}
@@ -16,11 +15,6 @@ use Rattle.pos_layout.specs.Lists.{points_inside}
 use Rattle.pos_lists.specs.PlotLists.{f7_in}
 use Rattle.pos_reader.proofs.HeaderLemmas.{eq_true, eq_false}
 use Rattle.pos_layout.specs.Reading.{is_headed, numbers_by}
-
--- ---- equal and different bytes
-
-pub same_bytes : (xs ys : List ℕ) → xs ≡ ys → bytes_eq xs ys ≡ true
-same_bytes xs ys e = (bytes_eq-Decides xs ys).1 e
 
 -- ---- the numbers of a park by its entry
 

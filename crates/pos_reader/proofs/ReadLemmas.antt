@@ -5,10 +5,8 @@ use Rattle.pos_edge.specs.View.{View}
 use Rattle.pos_edge.specs.Frame.{ChangesOnly, Nothing, NameOf, SameFaults, SameFaultsBut}
 use Rattle.pos_edge.proofs.Frames.{frame_then}
 use Rattle.pos_layout.specs.Layouts.{Layout, own}
-use Rattle.pos_reader.specs.declared.refusal.ReadRefusal.{ReadRefusal}
-use Rattle.pos_reader.specs.declared.refusal.ReadRefusal.TheVariants.{DiskFailed}
 use Rattle.pos_reader.specs.Plots.{PlotState, IsOpen, IsPlotFile, OnlyReads}
-use Rattle.pos_reader.specs.Readings.{CountsFaults, LeavesPlot, IsReading}
+use Rattle.pos_reader.specs.Readings.{CountsFaults, LeavesPlot}
 
 -- two calls that only read are one
 pub reads_then : (m n : ℕ) (a b c : View) → OnlyReads m a b → OnlyReads n b c → OnlyReads (m + n) a c
@@ -93,7 +91,3 @@ leaves_plot n p q a b same reads is = record {
   stays_open = rw same (open_after n p a b reads is);
   stays_file = λ bytes holds. rw same (file_after own n p bytes a b reads is holds);
 }
-
-pub is_reading : {X : Type 0} (n : ℕ) (result : Result X ReadRefusal) (p q : PlotState) (a b : View) → q ≡ p → OnlyReads n a b
-    → IsOpen p a → CountsFaults DiskFailed result a b → IsReading n result p q a b
-is_reading n result p q a b same reads is faults = record { left = leaves_plot n p q a b same reads is; faults = faults }

@@ -12,6 +12,3 @@ mod refusal;
 pub use plot::Plot;
 pub use pos_layout::{Damage, HeaderField};
 pub use refusal::{OpenRefusal, ReadRefusal};
-
-#[cfg(test)]
-mod tests;

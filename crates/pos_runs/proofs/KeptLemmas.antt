@@ -6,7 +6,7 @@ use Rattle.std.proofs.lemmas.Bool.{cases_Bool, cases_eq, false≢true}
 use Rattle.std.proofs.lemmas.Option.{none-some}
 use Rattle.pos_edge.specs.View.{View, IsDisk}
 use Rattle.pos_edge.specs.Frame.{ChangesOnly, ChangesFile, KeepsIds, ReadsOnly, Nothing, Just, NameOf}
-use Rattle.pos_edge.specs.Calls.{Ends, IsCreated}
+use Rattle.pos_edge.specs.Calls.{IsCreated}
 use Rattle.pos_edge.specs.ScratchNames.{ScratchState, scratch_name, next_name}
 use Rattle.pos_edge.proofs.ScratchFiles.{scratch_name-same}
 use Rattle.pos_runs.specs.Pages.{ListPages, ListStands, ListHolds}
@@ -109,21 +109,4 @@ kept-made read w scratch s xs file a b disk few earlier kept new h =
       stands = stands-kept w s a b (new.others.live s.file apart ∙ h.stands.live)
           (λ tells. subst (λ (x : Option (List ℕ)). IsSome x) (sym name) (h.stands.there (sym kept.tells ∙ tells))) (omega arith) h.stands;
       holds = holds-kept read w s xs a b kept.tells name (λ n named. kept.contents n (not_new n named)) h.holds;
-    }
-
--- another list past the removal of one of another FileId and another number
-pub kept-removed : {R S : Type 0} (base : List ℕ) (read : List Bool → R) (w : ℕ) (s : ListPages) (xs : List R) (other_read : List Bool → S) (v : ℕ) (t : ListPages) (ys : List S) (a b : View)
-    → IsDisk a → ChangesOnly (NameOf t.file a) (Just t.file) a b → Ends t.file a b → s.file ≢ t.file → s.number ≢ t.number → ListKept base other_read v t ys a → ListKept base read w s xs a
-    → ListKept base read w s xs b
-kept-removed base read w s xs other_read v t ys a b disk kept ends apart other own h =
-    let not_own : (n : List ℕ) → NameOf s.file a n → NameOf t.file a n → ⊥ =
-    (λ n mine yours. other-names base s.number t.number h.few own.few other (sym (name-is base read w s xs n a disk h mine) ∙ name-is base other_read v t ys n a disk own yours)) in
-    let name : b.name_of s.file ≡ a.name_of s.file = ends.names s.file apart not_own in
-    let size : b.size_of s.file ≡ a.size_of s.file = kept.size s.file h.stands.live apart in
-    record {
-      few = h.few;
-      named = λ tells. name ∙ h.named (sym kept.tells ∙ tells);
-      stands = stands-kept w s a b (ends.others s.file apart ∙ h.stands.live)
-          (λ tells. subst (λ (x : Option (List ℕ)). IsSome x) (sym name) (h.stands.there (sym kept.tells ∙ tells))) (omega arith) h.stands;
-      holds = holds-kept read w s xs a b kept.tells name (λ n named. kept.contents n (not_own n named)) h.holds;
     }

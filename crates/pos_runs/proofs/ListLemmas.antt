@@ -1,5 +1,5 @@
 -- Lists on pages: what each call makes of what a list stands for.
-use Rattle.std.proofs.Common.{◌≡◌, ℕ, ◌+◌, ◌*◌, ◌/◌, ◌^◌, ◌<◌, ◌≤◌, Bool, true, false, List, [], ◌∷◌, ◌++◌, length, take, Option, Some, None, refl, sym, ap, ◌∙◌, subst, inl, inr, arith, length-append, le_trans}
+use Rattle.std.proofs.Common.{◌≡◌, ℕ, ◌+◌, ◌*◌, ◌/◌, ◌<◌, ◌≤◌, Bool, true, false, List, [], ◌∷◌, ◌++◌, length, take, Option, Some, None, refl, sym, ap, ◌∙◌, subst, inl, inr, arith, length-append, le_trans}
 use Rattle.std.specs.Prelude.{IsSome, OnOk, Result, Ok, Err}
 use Rattle.std.proofs.Math.Nat.{mul-le-mul_left, mul-le-mul_right}
 use Rattle.std.proofs.lemmas.Bool.{cases_Bool, false≢true}
@@ -134,25 +134,6 @@ room-holds {R} read w s t a b disk h unsealed is write was_written xs holds =
     })
 
 -- ---- one more record
-
-pub pushed : ListPages → List ℕ → ListPages
-pushed s bytes = record s { count = s.count + 1; used = s.used + 1; bytes = bytes }
-
-pub push-stands : (w : ℕ) (s : ListPages) (bytes : List ℕ) (v : View) → ListStands w s v → s.is_sealed ≡ false → s.used < per_page w → s.count < 2 ^ 52 → length bytes ≡ 65536
-    → ListStands w (record s { count = s.count + 1; used = s.used + 1; bytes = bytes }) v
-push-stands w s bytes v h unsealed room few long =
-    let f = h.filling unsealed in
-    let pages = h.few_pages in
-    record {
-      live = h.live;
-      there = h.there;
-      size = h.size;
-      bytes = long;
-      few = omega arith;
-      few_pages = omega arith;
-      filling = λ _. record { page = f.page; count = (let c = f.count in omega arith); used = omega arith };
-      sealed = λ sealed. absurd (false≢true (sym unsealed ∙ sealed));
-    }
 
 pub push-holds : {R : Type 0} (read : List Bool → R) (w : ℕ) (s : ListPages) (bytes : List ℕ) (item : R) (code : List Bool) (v : View) → ListStands w s v → s.is_sealed ≡ false
     → s.used < per_page w → take (s.used * w + w) (bits_of bytes) ≡ take (s.used * w) (bits_of s.bytes) ++ code → length code ≡ w → read code ≡ item

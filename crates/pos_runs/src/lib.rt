@@ -15,8 +15,3 @@ mod tables;
 pub use ordered::{MAX_RECORDS, Ordered};
 pub use plan::Plan;
 pub use tables::Tables;
-
-#[cfg(test)]
-mod client;
-#[cfg(test)]
-mod tests;

@@ -121,6 +121,7 @@ impl<const K: u32> Tables<K> {
     }
 
     /// Pair i of table t: the left and the right place in the table below.
+    #[inline(always)]
     pub fn pair<D: Disk>(&mut self, disk: &mut D, t: u8, i: u64) -> Result<(u64, u64), WorkFault>
         requires size { IsRecordSize K }
         requires first { 2 ≤ t }
