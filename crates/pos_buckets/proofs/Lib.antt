@@ -3,3 +3,4 @@ mod TargetLemmas
 mod PlaceLemmas
 mod PairLemmas
 mod RunLemmas
+mod HitLemmas

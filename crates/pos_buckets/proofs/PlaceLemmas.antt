@@ -3,7 +3,7 @@ use Rattle.std.proofs.Common.{◌≡◌, ◌≢◌, ℕ, ◌+◌, ◌-◌, ◌<�
 use Rattle.std.specs.List.Sorted.{IsNonDecreasing}
 use Rattle.std.proofs.lemmas.Bool.{cases_eq, cases_lt}
 use Rattle.std.proofs.lemmas.List.{get_or-set_other, get_or-set_same, length-set, get_or-replicate, length-replicate}
-use Rattle.pos_buckets.specs.Places.{HasPlaces, AreInside, AreClear, AreMarked, AreLeftFrom}
+use Rattle.pos_buckets.specs.Places.{HasPlaces, AreFlags, AreInside, AreClear, AreMarked, AreLeftFrom}
 
 pub marked-none : (base : ℕ) (values marks firsts : List ℕ) → AreClear marks firsts → AreMarked base values 0 marks firsts
 marked-none base values marks firsts h = record {
@@ -11,6 +11,7 @@ marked-none base values marks firsts h = record {
   first = λ r small lt. absurd (omega (arith, h.none r small));
   least = λ r i small lt lt2. absurd (omega (arith, h.none r small));
   marked = λ i lt. absurd (omega arith);
+  flags = record { count = h.room.marks_count; at = λ r small. omega (arith, h.none r small) };
 }
 
 room-set :
@@ -18,6 +19,19 @@ room-set :
 room-set marks firsts r v i h = record {
   marks_count = length-set marks r v ∙ h.marks_count;
   firsts_count = length-set firsts r i ∙ h.firsts_count;
+}
+
+flags-set : (marks : List ℕ) (place : ℕ) → AreFlags marks → AreFlags (set marks place 1)
+flags-set marks place h = record {
+  count = length-set marks place 1 ∙ h.count;
+  at = λ r r_lt.
+      ⊎_elim (λ same.
+      let inside : place < length marks = omega (arith, h.count) in
+      let mark : get_or (set marks place 1) r 0 ≡ 1 = rw same (get_or-set_same marks place 1 0 inside) in omega (arith, mark))
+      (λ other.
+      let mark_is : get_or (set marks place 1) r 0 ≡ get_or marks r 0 = get_or-set_other marks place r 1 0 other in
+      let old = h.at r r_lt in omega (arith, old, mark_is))
+      (cases_eq r place);
 }
 
 -- the first value of a place that was not marked
@@ -73,6 +87,7 @@ marked-new base values marks firsts i inside rise small h new =
           ⊎_elim (λ lt2. lt2) (λ ge. let same : j ≡ i = omega arith in absurd (other (rw same refl))) (cases_lt j i) in
           let mark = h.marked j below in omega (arith, mark, mark_is))
           (cases_eq (get_or values j 0 - base) place);
+      flags = flags-set marks place h.flags;
     }
 
 -- a value at a place that was marked
@@ -85,6 +100,7 @@ marked-again base values marks firsts i h there = record {
   first = λ r r_lt lt. let old = h.first r r_lt lt in (omega (arith, old.0), old.1);
   least = h.least;
   marked = below_more (λ j. 0 < get_or marks (get_or values j 0 - base) 0) i h.marked (omega (arith, there));
+  flags = h.flags;
 }
 
 pub left-all :

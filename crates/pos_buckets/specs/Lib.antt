@@ -1,4 +1,5 @@
 pub mod Targets
 pub mod Places
+pub mod Hits
 pub mod Pairs
 pub mod PairsBelow

@@ -7,6 +7,11 @@ pub record HasPlaces (marks firsts : List ℕ) : Type 0 where
   pub marks_count : length marks ≡ 15113
   pub firsts_count : length firsts ≡ 15113
 
+-- a mark for each place, which is 0 or 1
+pub record AreFlags (marks : List ℕ) : Type 0 where
+  pub count : length marks ≡ 15113
+  pub at : (r : ℕ) → r < 15113 → slice_index marks r ≤ 1
+
 -- no place is marked
 pub record AreClear (marks firsts : List ℕ) : Type 0 where
   pub room : HasPlaces marks firsts
@@ -29,6 +34,7 @@ pub record AreMarked (base : ℕ) (values : List ℕ) (n : ℕ) (marks firsts : 
   pub least : (r i : ℕ) → r < 15113 → 0 < slice_index marks r → i < slice_index firsts r →
       slice_index values i < base + r
   pub marked : (i : ℕ) → i < n → 0 < slice_index marks (slice_index values i - base)
+  pub flags : AreFlags marks
 
 -- the same of all values
 abbrev pub IsMarked : ℕ → List ℕ → Places → Type 0

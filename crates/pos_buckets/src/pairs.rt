@@ -1,9 +1,10 @@
 // The matching pairs of two buckets.
 ghost use Rattle.std.specs.Prelude.{◌≡◌, ◌+◌, ◌*◌, ◌^◌, ◌<◌, ◌≤◌, ℕ, IfOk, OnOk, length, slice_index};
 ghost use Rattle.std.specs.List.Sorted.{IsNonDecreasing};
+ghost use Rattle.pos_buckets.specs.Hits.{AreHits};
 ghost use Rattle.pos_buckets.specs.Pairs.{AreNeighbours, ArePairs};
 ghost use Rattle.pos_buckets.specs.PairsBelow.{AreBeside, ArePairsBelow, IsRun, point};
-ghost use Rattle.pos_buckets.specs.Places.{IsClear, IsMarked};
+ghost use Rattle.pos_buckets.specs.Places.{AreFlags, IsClear, IsMarked};
 ghost use Rattle.pos_buckets.specs.Targets.{target_place};
 
 use crate::places::{mark, unmark};
@@ -101,21 +102,39 @@ impl Targets {
     {
         let parity = (left[i] / BUCKET % 2) as usize;
         let place = (left[i] % BUCKET) as usize;
-        for m in 0..TARGETS {
+        let mut hits = self.marked_targets(places, parity, place);
+        while hits != 0 {
+            let m = hits.trailing_zeros() as usize;
+            hits &= !(1u64 << m);
             let target = self.target(parity, place, m);
-            if places.marks[target] != 0 {
-                push_run(
-                    base + target as u64,
-                    places.firsts[target],
-                    left,
-                    right,
-                    i,
-                    m,
-                    pairs,
-                )?;
-            }
+            push_run(
+                base + target as u64,
+                places.firsts[target],
+                left,
+                right,
+                i,
+                m,
+                pairs,
+            )?;
         }
         Ok(())
+    }
+
+    // The word whose bit m is the mark of the m-th target. It is made before any pair is listed, so that the 64 tests
+    // go without a branch.
+    #[inline]
+    fn marked_targets(&self, places: &Places, parity: usize, place: usize) -> u64
+        requires parity { parity < 2 }
+        requires place { place < 15113 }
+        requires flags { AreFlags places.now.marks.items }
+        ensures { AreHits parity place places.now.marks.items result }
+    {
+        let mut hits = 0u64;
+        for n in 0..TARGETS {
+            let target = self.target(parity, place, TARGETS - 1 - n);
+            hits = hits * 2 + u64::from(places.marks[target]);
+        }
+        hits
     }
 }
 

@@ -1,5 +1,8 @@
-use Rattle.pos_buckets.specs.PairsBelow.{point, ArePairsBelow}
+use Rattle.pos_buckets.proofs.HitLemmas.{AreHitsLeft}
 use Rattle.pos_buckets.proofs.targets.Targets.list_left.Given as goal
 
-abbrev pub invariant-loop-m : goal.invariant-loop-m
-invariant-loop-m l = ArePairsBelow l.left l.right (point l.i l.m 0) l.pairs.items
+abbrev pub invariant-loop-hits : goal.invariant-loop-hits
+invariant-loop-hits l = AreHitsLeft l.left l.right l.places.marks.items l.i l.hits l.pairs.items
+
+abbrev pub decreases-loop-hits : goal.decreases-loop-hits
+decreases-loop-hits l = l.hits
