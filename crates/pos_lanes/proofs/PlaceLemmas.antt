@@ -1,4 +1,4 @@
--- Lemmas on places of lists of eight.
+-- Lemmas on places of lists.
 use Rattle.std.proofs.Common.{◌≡◌, ℕ, zero, suc, ◌<◌, List, [], ◌∷◌, Some, length, slice_get, slice_index_or, arith, refl}
 use Rattle.std.specs.Simd.Lanes.{zip2}
 
@@ -15,19 +15,3 @@ zip2-got f [] ys i x y at_x at_y = absurd (cc)
 zip2-got f (a ∷ xs) [] i x y at_x at_y = absurd (cc)
 zip2-got f (a ∷ xs) (b ∷ ys) zero x y at_x at_y = cc
 zip2-got f (a ∷ xs) (b ∷ ys) (suc i) x y at_x at_y = zip2-got f xs ys i x y at_x at_y
-
--- a list of eight by its places
-pub eight_places : {A : Type 0} (a b c d e f g h : A) (xs : List A) → length xs ≡ 8
-    → slice_get xs 0 ≡ Some a → slice_get xs 1 ≡ Some b → slice_get xs 2 ≡ Some c → slice_get xs 3 ≡ Some d
-    → slice_get xs 4 ≡ Some e → slice_get xs 5 ≡ Some f → slice_get xs 6 ≡ Some g → slice_get xs 7 ≡ Some h
-    → a ∷ b ∷ c ∷ d ∷ e ∷ f ∷ g ∷ h ∷ [] ≡ xs
-eight_places a b c d e f g h (a1 ∷ b1 ∷ c1 ∷ d1 ∷ e1 ∷ f1 ∷ g1 ∷ h1 ∷ []) long ea eb ec ed ee ef eg eh = cc
-eight_places a b c d e f g h (a1 ∷ b1 ∷ c1 ∷ d1 ∷ e1 ∷ f1 ∷ g1 ∷ h1 ∷ i1 ∷ xs) long ea eb ec ed ee ef eg eh = absurd (omega arith)
-eight_places a b c d e f g h [] long ea eb ec ed ee ef eg eh = absurd (omega arith)
-eight_places a b c d e f g h (a1 ∷ []) long ea eb ec ed ee ef eg eh = absurd (omega arith)
-eight_places a b c d e f g h (a1 ∷ b1 ∷ []) long ea eb ec ed ee ef eg eh = absurd (omega arith)
-eight_places a b c d e f g h (a1 ∷ b1 ∷ c1 ∷ []) long ea eb ec ed ee ef eg eh = absurd (omega arith)
-eight_places a b c d e f g h (a1 ∷ b1 ∷ c1 ∷ d1 ∷ []) long ea eb ec ed ee ef eg eh = absurd (omega arith)
-eight_places a b c d e f g h (a1 ∷ b1 ∷ c1 ∷ d1 ∷ e1 ∷ []) long ea eb ec ed ee ef eg eh = absurd (omega arith)
-eight_places a b c d e f g h (a1 ∷ b1 ∷ c1 ∷ d1 ∷ e1 ∷ f1 ∷ []) long ea eb ec ed ee ef eg eh = absurd (omega arith)
-eight_places a b c d e f g h (a1 ∷ b1 ∷ c1 ∷ d1 ∷ e1 ∷ f1 ∷ g1 ∷ []) long ea eb ec ed ee ef eg eh = absurd (omega arith)
