@@ -17,10 +17,6 @@ pub map-same : {X Y : Type 0} (f g : X → Y) (xs : List X) → All (λ x. f x �
 map-same f g [] h = refl
 map-same f g (x ∷ xs) h = ap₂ (λ a b. a ∷ b) (All-head (λ y. f y ≡ g y) x xs h) (map-same f g xs (All-tail (λ y. f y ≡ g y) x xs h))
 
-pub map-itself : {X : Type 0} (f : X → X) (xs : List X) → All (λ x. f x ≡ x) xs → map f xs ≡ xs
-map-itself f [] h = refl
-map-itself f (x ∷ xs) h = ap₂ (λ a b. a ∷ b) (All-head (λ y. f y ≡ y) x xs h) (map-itself f xs (All-tail (λ y. f y ≡ y) x xs h))
-
 -- different elements in another order
 pub distinct-permutation :
     {X : Type 0} (eq : X → X → Bool) (same : (a b : X) → Decides (eq a b) (a ≡ b)) (xs ys : List X)

@@ -8,7 +8,7 @@ use Rattle.std.proofs.Common.{◌⊎◌, ◌≤◌}
 use Rattle.pos_edge.specs.Frame.{ChangesOnly, NameOf, Nothing, Just}
 use Rattle.pos_edge.specs.ScratchNames.{ScratchState, next_name, with_file}
 use Rattle.pos_edge.specs.ScratchWork.{IsNameBetween}
-use Rattle.pos_edge.proofs.Frames.{frame_none, frame_then}
+use Rattle.pos_edge.proofs.Frames.{frame_none, frame_then, frame_wider}
 use Rattle.pos_runs.specs.Pages.{ListPages, ListStands, ListHolds}
 use Rattle.pos_runs.specs.Lists.{IsListWrite, IsNewList, IsSealedFrom, HasOneMore, ListKept}
 use Rattle.pos_runs.proofs.KeptLemmas.{kept-beside, kept-made, kept-new, kept-write, stands-beside}
@@ -72,6 +72,25 @@ writes_none s u a = record {
   second = record { file = refl; number = refl };
 }
 
+-- the first list alone was written, or the second
+pub first_written : (s t u : ListPages) (a b : View) → IsListWrite s t a b → AreListWrites s t u u a b
+first_written s t u a b write = record {
+  frame = frame_wider (IsNameOfTwo s.file u.file a) (NameOf s.file a) (IsOneOfTwo s.file u.file) (Just s.file) a b (λ n p. inl p) (λ f l p. inl p) write.frame.frame;
+  ids = write.ids;
+  reads = write.reads;
+  first = write.same;
+  second = record { file = refl; number = refl };
+}
+
+pub second_written : (s u v : ListPages) (a b : View) → IsListWrite u v a b → AreListWrites s s u v a b
+second_written s u v a b write = record {
+  frame = frame_wider (IsNameOfTwo s.file u.file a) (NameOf u.file a) (IsOneOfTwo s.file u.file) (Just u.file) a b (λ n p. inr p) (λ f l p. inr p) write.frame.frame;
+  ids = write.ids;
+  reads = write.reads;
+  first = record { file = refl; number = refl };
+  second = write.same;
+}
+
 -- writes after others
 pub writes_then : (s t q u v z : ListPages) (a b c : View) → AreListWrites s t u v a b → AreListWrites t q v z b c → AreListWrites s q u z a c
 writes_then s t q u v z a b c h g = record {
@@ -89,6 +108,9 @@ writes_then s t q u v z a b c h g = record {
   first = record { file = g.first.file ∙ h.first.file; number = g.first.number ∙ h.first.number };
   second = record { file = g.second.file ∙ h.second.file; number = g.second.number ∙ h.second.number };
 }
+
+pub both_written : (s t u v : ListPages) (a b c : View) → IsListWrite s t a b → IsListWrite u v b c → AreListWrites s t u v a c
+both_written s t u v a b c one two = writes_then s t t u u v a b c (first_written s t u a b one) (second_written t u v b c two)
 
 -- one more of the items that were turned
 pub take_more : {X Y : Type 0} (f : X → Y) (xs : List X) (i : ℕ) (x : X) (y : Y) → i < length xs → x ≡ get_or xs i x → y ≡ f x → map f (take (i + 1) xs) ≡ map f (take i xs) ++ y ∷ []

@@ -29,6 +29,10 @@ module _ (k t : ℕ) (es before : List Entry) (left right : Bucket) (h : AreTake
   pub taken-count : length es ≡ length before + length left.entries.items + length right.entries.items
   taken-count = ap length h.split ∙ length-parts before left.entries.items right.entries.items
 
+  -- the right bucket ends where the entries do
+  pub right-end : right.first + length right.entries.items ≡ length es
+  right-end = omega (arith, taken-count, h.right_first)
+
   all-entries : All (IsEntry k (t - 1)) (before ++ (left.entries.items ++ right.entries.items))
   all-entries = subst (All (IsEntry k (t - 1))) h.split h.entries
 

@@ -1,5 +1,5 @@
 -- Work on scratch files and its answers, one piece after another.
-use Rattle.std.proofs.Common.{◌≡◌, ℕ, ◌+◌, ◌≤◌, ◌<◌, ◌^◌, true, false, List, Result, Ok, Err, sym, ap, ◌∙◌, subst, arith}
+use Rattle.std.proofs.Common.{◌≡◌, ℕ, ◌+◌, ◌≤◌, ◌<◌, ◌^◌, List, Result, Err, sym, ap, ◌∙◌, subst, arith}
 use Rattle.std.specs.Prelude.{IsErrOf, IsSome}
 use Rattle.std.proofs.Common.{Option}
 use Rattle.pos_edge.specs.View.{View}
@@ -10,7 +10,6 @@ use Rattle.pos_edge.specs.ScratchWork.{IsNameBetween, IsScratchDone}
 use Rattle.pos_edge.specs.declared.scratch.ScratchDamage.{ScratchDamage}
 use Rattle.pos_edge.specs.declared.scratch.WorkFault.{WorkFault}
 use Rattle.pos_edge.specs.declared.scratch.WorkFault.TheVariants.{DiskFailed, Exists, Scratch}
-use Rattle.std.proofs.lemmas.Bool.{true≢false}
 use Rattle.pos_edge.proofs.Frames.{frame_wider}
 use Rattle.pos_edge.proofs.FaultLemmas.{Rose-since, faults_then}
 use Rattle.pos_edge.proofs.ScratchFiles.{scratch_name-same}
@@ -56,17 +55,6 @@ answer_new e s t a b same exists failed none quiet = record {
   exists = λ file p. let x = exists file p in (x.0 ∙ ap (λ (z : ScratchState). z.made) (sym same), subst (λ n. WasThere (scratch_name s.base n) a) (sym x.0) x.1);
   no_damage = none;
 }
-
--- where all went well there is nothing to say but of the count of faults
-pub answer_ok : {X : Type 0} (x : X) (s t : ScratchState) (a b : View) → SameFaults a b → IsWorkAnswer {X = X} (Ok x) s t a b
-answer_ok {X} x s t a b quiet = record {
-  failed = λ p. absurd (not_err x DiskFailed p);
-  quiet = quiet;
-  exists = λ file p. absurd (not_err x (Exists file) p);
-  no_damage = λ damage p. not_err x (Scratch damage) p;
-} where
-  not_err : (x : X) (e : WorkFault) → IsErrOf {T = X} (Ok x) e → ⊥
-  not_err x e p = true≢false (let t : true ≡ false = cc in t)
 
 -- what the making of a list may have changed, where it went well
 pub new_frame : (s t : ScratchState) (file : ℕ) (a b : View) → t ≡ with_file s file → IsScratchDone (IsNameBetween s.base s.made t.made) Nothing s t a b → ChangesOnly (Just (next_name s)) Nothing a b

@@ -47,6 +47,13 @@ pub record IsMatched (k t : ℕ) (es : List Entry) (m : Matcher) (drafts : List 
   pub begun : length m.right.entries.items ≡ 0 → m.right.next ≡ 0
   pub small : m.right.next < 2 ^ 59
 
+-- the right bucket became the left one, and the right one has no entries and is the one before `next`
+pub record HasTurned (next : ℕ) (old new : Matcher) : Type 0 where
+  pub pairs : (k t : ℕ) (es : List Entry) (drafts : List Draft) → HasPairsTo k t es (length es) old drafts → HasPairsTo k t es new.right.first new drafts
+  pub empty : new.right.entries.items ≡ []
+  pub next_is : new.right.next ≡ next
+  pub waiting : new.waiting ≡ old.waiting
+
 -- nothing is taken: a matcher is ready for any table
 abbrev pub IsReady : Matcher → Type 0
 IsReady m = (k t : ℕ) → IsMatched k t [] m []

@@ -39,8 +39,3 @@ fn push<T: Copy>(items: &mut Vec<T>, item: T) -> Result<(), Memory>
     }
     Ok(())
 }
-
-#[cfg(test)]
-mod forward_tests;
-#[cfg(test)]
-mod tests;

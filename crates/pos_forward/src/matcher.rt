@@ -1,11 +1,11 @@
 // The matching pairs of a table whose entries are taken one after another.
-ghost use Rattle.std.specs.Prelude.{◌≡◌, ℕ, List, ◌+◌, ◌-◌, ◌^◌, ◌<◌, ◌≤◌, ◌++◌, ◌∷◌, [], length, map, All, IfOk, OnOk, IsErrOf};
+ghost use Rattle.std.specs.Prelude.{◌≡◌, ℕ, List, ◌+◌, ◌-◌, ◌^◌, ◌<◌, ◌≤◌, ◌++◌, ◌∷◌, [], length, map, All, IfErr, IfOk, OnOk, IsErrOf};
 ghost use Rattle.pos_tuple.specs.declared.entry.Entry.{Entry};
 ghost use Rattle.pos_tuple.specs.Match.{bucket};
 ghost use Rattle.pos_tuple.specs.Node.{IsEntry};
 ghost use Rattle.pos_forward.specs.Eights.{CountsEights};
 ghost use Rattle.pos_forward.specs.Waiting.{AreMadeOrWait, IsFew, StandsIn, shifted};
-ghost use Rattle.pos_forward.specs.Matched.{HasPairsTo, IsMatched, IsReady, MayTake, MayFinish, IsOverfull};
+ghost use Rattle.pos_forward.specs.Matched.{HasPairsTo, HasTurned, IsMatched, IsReady, MayTake, MayFinish, IsOverfull};
 ghost use Rattle.pos_forward.specs.Tables.{AreUnsorted};
 
 use crate::Drafts;
@@ -189,13 +189,35 @@ impl Matcher {
             → CountsEights base lanes.new drafts.new) }
     {
         self.join(size, t, drafts, lanes)?;
-        if (drafts.len() + self.waiting.count) as u64 > capacity {
+        self.test_room(capacity, drafts)?;
+        self.turn(next);
+        Ok(())
+    }
+
+    // Refuses where more pairs are made or wait than the capacity.
+    #[inline(always)]
+    fn test_room(&self, capacity: u64, drafts: &Drafts) -> Result<(), MatchFault>
+        requires few { self.now.waiting.count < 8 }
+        ensures within { OnOk result (length drafts.now + self.now.waiting.count ≤ capacity) }
+        ensures full { IfErr result (λ _. capacity < length drafts.now + self.now.waiting.count) }
+    {
+        let made = drafts.len() as u64;
+        if made > capacity || (self.waiting.count as u64) > capacity - made {
             return Err(MatchFault::Full);
         }
+        Ok(())
+    }
+
+    // The right bucket becomes the left one, and the right one has no entries yet, and is the one before `next`.
+    fn turn(&mut self, next: u64)
+        requires behind { self.old.right.next < next }
+        requires small { next < 2 ^ 60 }
+        requires room { self.old.right.first + length self.old.right.entries.items < 2 ^ 60 }
+        ensures { HasTurned next self.old self.new }
+    {
         let first = self.right.first + self.right.entries.len() as u64;
         std::mem::swap(&mut self.left, &mut self.right);
         self.right.begin(first, next);
-        Ok(())
     }
 
     // Makes the entries of the matching pairs of the two buckets, where they are neighbours.

@@ -1,9 +1,16 @@
-use Rattle.std.proofs.Common.{◌∙◌}
-use Rattle.pos_forward.proofs.StoreLemmas.{more_step, writes_then}
+use Rattle.std.proofs.Common.{refl, ◌∙◌}
+use Rattle.pos_forward.proofs.StoreLemmas.{more_none, more_step, writes_none, writes_then}
 use Rattle.pos_forward.proofs.store.push_all.Goals as goal
 
 pub returns-in_err-push_both-clause-writes : goal.returns-in_err-push_both-clause-writes
 returns-in_err-push_both-clause-writes g c = writes_then _ _ _ _ _ _ _ _ _ c.loop-i.invariant.writes c.push_both.ensures.writes
+
+pub loop-i-init : goal.loop-i-init
+loop-i-init g c = record {
+  writes = writes_none c.args.first.now c.args.second.now (g.D.Disk.view c.args.disk.now);
+  more = more_none g.R.Record.read g.R.Record.bit_count g.S.Record.read g.S.Record.bit_count c.args.first.now c.args.second.now (g.D.Disk.view c.args.disk.now) c.requires.first_open c.requires.second_open;
+  quiet = refl;
+}
 
 pub loop-i-preserved : goal.loop-i-preserved
 loop-i-preserved g c =

@@ -1,7 +1,7 @@
 ghost use Rattle.pos_record.specs.Fields.{IsRecordSize};
 
-use crate::{ForwardFault, forward};
 use pos_edge::{BlankDisk, Disk, MemoryDisk, Scratch, WorkFault};
+use pos_forward::{ForwardFault, forward};
 use pos_lanes::Lanes;
 use pos_runs::Plan;
 use pos_tuple::Id;
