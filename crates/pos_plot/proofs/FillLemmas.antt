@@ -22,15 +22,10 @@ use Rattle.pos_edge.proofs.ScratchFiles.{Stand-kept, scratch_name-same}
 use Rattle.pos_edge.proofs.ScratchWorkLemmas.{done_beside, name_is_there}
 use Rattle.pos_forward.specs.declared.faults.ForwardFault.{ForwardFault}
 use Rattle.pos_forward.specs.declared.faults.ForwardFault.TheVariants.{TableFull as ForwardFull, Work}
-use Rattle.pos_lists.specs.PlotLists.{numbers, count}
 use Rattle.pos_lists.specs.Trees.{IsInRange}
-use Rattle.pos_laws.specs.Tables.{Describes}
 use Rattle.pos_laws.specs.Making.{IsAbove, IsFull}
 use Rattle.pos_laws.specs.PlotOf.{PlotOf}
-use Rattle.pos_laws.specs.Renumbering.{IsRelocated}
-use Rattle.pos_laws.proofs.Relocation.{relocated_is_the_plot, relocated_is_in_range}
 use Rattle.pos_layout.specs.Layouts.{own}
-use Rattle.pos_layout.specs.Lists.{IsTable}
 use Rattle.pos_layout.specs.Drafts.{Draft, WriterState, Stands, begun, plot_of, draft_bytes}
 use Rattle.pos_layout.specs.Images.{EachImageOf, IsShut}
 use Rattle.pos_layout.specs.Writing.{IsBegun, IsStanding, WritesOnly, with_tables}
@@ -235,11 +230,7 @@ module _ (s t : ScratchState) (w : WriterState) (p : Draft) (a b : View) (so_far
       after_writes : IsScratchDone (NameOf w.file b) (Just w.file) t t b c
       after_writes = done_beside (NameOf w.file b) (Just w.file) t b c writes.kept.frame (λ n is none. name_is_there w.file n b disk is none)
 
--- ---- the plot of the id
-
-sixth_is_short : (id : List ℕ) (k : ℕ) (tables : List (List ℕ)) → length tables ≡ 7 → All (IsTable k) tables → count (record { id = id; k = k; tables = tables }) 6 ≤ 2 ^ (k + 1)
-unfolding numbers
-sixth_is_short id k tables seven all = (all 5 [] (omega arith)).few
+-- ---- the tables and the marks
 
 -- a level has as many entries as its list has records
 entries_counted : (k : ℕ) (t : TablesState) (ts : TableLists) (v : View) (n : ℕ) → n ≤ 6 → TablesStand k t ts v → entries ts n ≡ (pages_at t n).count
@@ -289,15 +280,6 @@ all_used k s t m2 m3 m4 m5 m6 ts v told kept = record {
 } where
   used : (level : ℕ) (m : Marks) → MarksStand s m level ts v → AreUsed level m ts v
   used level m marks = record { marked = marks.marks.0; stand = marks.marks.1; used = marks.marks.2 told }
-
--- what the writer stands for after relocation of an id's tables is the plot of the id
-pub relocated_plot : (id : List ℕ) (k : ℕ) (w : WriterState) (tables : List (List ℕ)) (ts : TableLists) (place : ℕ → ℕ → ℕ) (v : View)
-    → Stands own w (with_tables tables (begun id k)) v → length tables ≡ 7 → Describes ts id k → IsRelocated ts (plot_of (with_tables tables (begun id k))) place
-    → PlotOf (plot_of (with_tables tables (begun id k))) id k × IsInRange (plot_of (with_tables tables (begun id k)))
-relocated_plot id k w tables ts place v stands seven describes relocated =
-    let p = plot_of (with_tables tables (begun id k)) in
-    let few : count p 6 ≤ 2 ^ (k + 1) = sixth_is_short id k tables seven stands.keeps.draft.ended in
-    (relocated_is_the_plot ts id k p place describes relocated refl refl seven, relocated_is_in_range ts id k p place describes relocated refl few)
 
 -- ---- the causes of later faults, as those since the beginning
 

@@ -24,7 +24,7 @@ use Rattle.pos_plot.specs.declared.run.Counts.{Counts}
 use Rattle.pos_plot.specs.Faults.{of_work}
 use Rattle.pos_plot.specs.PlotFiles.{IsFileOfPlot, OpensAs, IsLeftPlot}
 use Rattle.pos_plot.specs.PlotRuns.{IsRunName, IsPlotCause, IsStopped, IsPlotRun}
-use Rattle.pos_plot.specs.Steps.{IsStart, HasStarted, IsStartCause, IsFill, HasFilled, IsFillCause, IsClose, HasClosed}
+use Rattle.pos_plot.specs.Steps.{IsFileStart, HasStarted, IsStartCause, IsFill, HasFilled, IsFillCause, IsClose, HasClosed}
 use Rattle.pos_plot.proofs.StartLemmas.{there_absent, no_image, images_called, failure_of_work}
 use Rattle.pos_plot.proofs.CloseLemmas.{name_in}
 use Rattle.pos_plot.proofs.PlotLemmas.{tiny_opens_as, shut_opens_as, finished_opens_as, finished_is_of_plot, counts_are}
@@ -77,11 +77,11 @@ module _ (id : List ℕ) (k capacity : ℕ) (name base : List ℕ) (o : View) wh
   start_stops (Scratch d) a cause = absurd cause
   start_stops Memory a cause = tt
 
-  start_images : {X : Type 0} (r : Result X PlotFault) (a : View) → IsStart name r o a → o.contents name ≡ None → EachImage name (OpensAs id k) o a
+  start_images : {X : Type 0} (r : Result X PlotFault) (a : View) → IsFileStart name r o a → o.contents name ≡ None → EachImage name (OpensAs id k) o a
   start_images r a start none = each_weaker name IsTinyOrShut (OpensAs id k) o a (tiny_opens_as id k) (start.images none)
 
   -- the file was not begun
-  pub run_not_started : (fault : PlotFault) (a : View) {X : Type 0} → IsStart {X = X} name (Err fault) o a → IsPlotRun id k capacity name base (Err fault) o a
+  pub run_not_started : (fault : PlotFault) (a : View) {X : Type 0} → IsFileStart {X = X} name (Err fault) o a → IsPlotRun id k capacity name base (Err fault) o a
   run_not_started fault a start = record {
     others = frame_wider (IsRunName name base) (Just name) Nothing Nothing o a (λ n is. inl is) (λ f l x. x) start.kept;
     there = start.there;
@@ -94,7 +94,7 @@ module _ (id : List ℕ) (k capacity : ℕ) (name base : List ℕ) (o : View) wh
     plotted = tt;
   }
 
-  module _ {X : Type 0} (x : X) (w : WriterState) (a : View) (apart : IsScratchName base name → ⊥) (start : IsStart name (Ok x) o a) (started : HasStarted id k name w o a) where
+  module _ {X : Type 0} (x : X) (w : WriterState) (a : View) (apart : IsScratchName base name → ⊥) (start : IsFileStart name (Ok x) o a) (started : HasStarted id k name w o a) where
     new_file : (f : ℕ) → o.is_live f ≡ true → f ≡ w.file → ⊥
     new_file f live is = false≢true (sym started.fresh ∙ (ap o.is_live (sym is) ∙ live))
 

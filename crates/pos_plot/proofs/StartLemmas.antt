@@ -21,7 +21,7 @@ use Rattle.pos_layout.specs.Writing.{Works, IsBegun}
 use Rattle.pos_plot.specs.declared.fault.PlotFault.{PlotFault}
 use Rattle.pos_plot.specs.declared.fault.PlotFault.TheVariants.{DiskFailed}
 use Rattle.pos_plot.specs.Faults.{of_create, of_work}
-use Rattle.pos_plot.specs.Steps.{IsStart, HasStarted, IsStartCause}
+use Rattle.pos_plot.specs.Steps.{IsFileStart, HasStarted, IsStartCause}
 
 -- a name that is there is not absent
 pub there_absent : (o : Option (List ℕ)) → IsSome o → o ≡ None → ⊥
@@ -39,7 +39,7 @@ still_absent name a b disk kept none = each_beside name IsTinyOrShut Nothing Not
 
 -- a run that ends before its first call on the disk
 pub start_untouched : (X : Type 0) (name : List ℕ) (fault : PlotFault) (a b : View) → IsDisk a → IsUntouched a b → ChangesOnly (Just name) Nothing a b → IsStartCause name a b fault
-    → IsStart {X = X} name (Err fault) a b
+    → IsFileStart {X = X} name (Err fault) a b
 start_untouched X name fault a b disk u kept cause = record {
   kept = kept;
   there = λ some. u.kept;
@@ -50,7 +50,7 @@ start_untouched X name fault a b disk u kept cause = record {
 
 -- the file was not made
 pub start_refused : (X : Type 0) (name : List ℕ) (e : CreateFault) (a b : View) → IsDisk a → ChangesOnly (Just name) Nothing a b → (e ≡ IsTaken → WasThere name a × IsUntouched a b)
-    → (e ≡ CreateFailed → IsHalfCreated name a b) → (e ≡ CreateMemory → IsUntouched a b) → IsStart {X = X} name (Err (of_create e)) a b
+    → (e ≡ CreateFailed → IsHalfCreated name a b) → (e ≡ CreateMemory → IsUntouched a b) → IsFileStart {X = X} name (Err (of_create e)) a b
 start_refused X name IsTaken a b disk kept exists failed memory = start_untouched X name _ a b disk (exists refl).1 kept (exists refl).0
 start_refused X name CreateMemory a b disk kept exists failed memory = start_untouched X name _ a b disk (memory refl) kept tt
 start_refused X name CreateFailed a b disk kept exists failed memory = let h = failed refl in record {
@@ -86,7 +86,7 @@ images_called P name file c b disk tells told each = elim (cases_Bool c.tells) [
 -- the file was made, and begun with this answer
 pub start_begun : {X Y : Type 0} (name : List ℕ) (file : ℕ) (q : Result X WorkFault) (r : Result Y PlotFault) (a c b : View) → IsDisk c → IsDisk b
     → ChangesOnly (Just name) Nothing a c → IsCreated name file a c → Works IsTinyOrShut file q c b
-    → MatchResult r (λ y. Unit {0}) (IsStartCause name a b) → SameFaultsBut DiskFailed r a b → IsStart name r a b
+    → MatchResult r (λ y. Unit {0}) (IsStartCause name a b) → SameFaultsBut DiskFailed r a b → IsFileStart name r a b
 start_begun name file q r a c b disk_c disk_b kept new works cause quiet = record {
   kept = frame_then (Just name) (Just name) (NameOf file c) Nothing Nothing (Just file) a c b (λ n x. x) (called name file c disk_c new.named) (λ f l x. x)
       (λ f l is. false≢true (sym new.fresh ∙ (ap a.is_live (sym is) ∙ l))) kept works.kept.frame;
@@ -110,14 +110,14 @@ pub failure_of_work : (e : WorkFault) → e ≡ WorkFailed → of_work e ≡ Dis
 failure_of_work e is = ap of_work is
 
 pub start_failed : {X : Type 0} (Y : Type 0) (name : List ℕ) (file : ℕ) (e : WorkFault) (a c b : View) → IsDisk c → IsDisk b
-    → ChangesOnly (Just name) Nothing a c → IsCreated name file a c → SameFaults a c → Works {X = X} IsTinyOrShut file (Err e) c b → IsStart {X = Y} name (Err (of_work e)) a b
+    → ChangesOnly (Just name) Nothing a c → IsCreated name file a c → SameFaults a c → Works {X = X} IsTinyOrShut file (Err e) c b → IsFileStart {X = Y} name (Err (of_work e)) a b
 start_failed Y name file e a c b disk_c disk_b kept new same works =
     start_begun name file (Err e) (Err (of_work e)) a c b disk_c disk_b kept new works
     (begin_cause name e a c b kept.faults works.fault (λ is. works.failed (ap (λ f. Err f) is)))
     (λ other. works.quiet (λ is. other (failure_of_work e is)) ∙ same)
 
 pub start_went_well : {X Y : Type 0} (name : List ℕ) (file : ℕ) (x : X) (y : Y) (a c b : View) → IsDisk c → IsDisk b
-    → ChangesOnly (Just name) Nothing a c → IsCreated name file a c → SameFaults a c → Works IsTinyOrShut file (Ok x) c b → IsStart name (Ok y) a b
+    → ChangesOnly (Just name) Nothing a c → IsCreated name file a c → SameFaults a c → Works IsTinyOrShut file (Ok x) c b → IsFileStart name (Ok y) a b
 start_went_well name file x y a c b disk_c disk_b kept new same works =
     start_begun name file (Ok x) (Ok y) a c b disk_c disk_b kept new works tt (works.quiet ∙ same)
 

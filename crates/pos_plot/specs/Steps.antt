@@ -34,7 +34,7 @@ IsStartCause name old new Memory = Unit {0}
 IsStartCause name old new _ = ⊥
 
 -- The file of this name was made and begun, or was not. Whatever was answered, each image of it is tiny or has a closed gate.
-pub record IsStart {X : Type 0} (name : List ℕ) (result : Result X PlotFault) (old new : View) : Type 0 where
+pub record IsFileStart {X : Type 0} (name : List ℕ) (result : Result X PlotFault) (old new : View) : Type 0 where
   pub kept : ChangesOnly (Just name) Nothing old new
   pub there : IsSome (old.contents name) → ChangesOnly Nothing Nothing old new
   pub images : old.contents name ≡ None → EachImage name IsTinyOrShut old new

@@ -18,6 +18,3 @@ mod starting;
 pub use fault::{Name, PlotFault};
 pub use run::{Counts, plot};
 pub use sizes::plot_sized;
-
-#[cfg(test)]
-mod tests;

@@ -1,6 +1,6 @@
 // The start of a run: its file is made, with a closed gate.
 ghost use Rattle.std.specs.Prelude.{◌≡◌, ◌≤◌, IfOk};
-ghost use Rattle.pos_plot.specs.Steps.{HasStarted, IsStart};
+ghost use Rattle.pos_plot.specs.Steps.{HasStarted, IsFileStart};
 
 use crate::PlotFault;
 use pos_edge::Disk;
@@ -17,7 +17,7 @@ pub(crate) fn start<D: Disk>(
     disk: &mut D,
 ) -> Result<PlotWriter, PlotFault>
     requires { size ≤ GREATEST_SIZE }
-    ensures start { IsStart name.now result (D.view disk.old) (D.view disk.new) }
+    ensures start { IsFileStart name.now result (D.view disk.old) (D.view disk.new) }
     ensures ok { IfOk result (λ w. HasStarted id.now.0 size name.now w (D.view disk.old) (D.view disk.new)) }
 {
     let file = disk.create(name)?;

@@ -10,15 +10,22 @@ use Rattle.pos_edge.specs.View.{View}
 use Rattle.pos_edge.specs.Frame.{Just, NameOf, Nothing, ReadsOnly, SameFaults}
 use Rattle.pos_edge.specs.FileSets.{IsOutside}
 use Rattle.pos_lists.specs.TableLists.{TableLists, entries, left_of, right_of}
+use Rattle.std.specs.Prelude.{All}
+use Rattle.pos_lists.specs.PlotLists.{PlotLists, numbers, count}
+use Rattle.pos_lists.specs.Trees.{IsInRange}
 use Rattle.pos_lists.specs.Used.{IsUsed, MarksUsed}
 use Rattle.pos_lists.specs.Sound.{IsSound}
 use Rattle.pos_lists.proofs.UsedLemmas.{used_at_top, inside_at_top}
 use Rattle.pos_laws.specs.Tables.{Describes}
-use Rattle.pos_laws.specs.Renumbering.{IsLastTable, IsOneToOne, IsRenumbered, point_at, with_places}
+use Rattle.pos_laws.specs.PlotOf.{PlotOf}
+use Rattle.pos_laws.specs.Renumbering.{IsLastTable, IsOneToOne, IsRelocated, IsRenumbered, point_at, with_places}
+use Rattle.pos_laws.proofs.Relocation.{relocated_is_the_plot, relocated_is_in_range}
+use Rattle.pos_laws.proofs.Sound.{described_is_sound}
 use Rattle.pos_laws.proofs.Apart.{left_used, pairs_differ, points_differ, right_used, values_are_apart}
 use Rattle.pos_laws.proofs.PassLemmas.{nothing_is_renumbered, a_level_is_renumbered, six_passes_relocate}
 use Rattle.pos_layout.specs.Layouts.{own}
-use Rattle.pos_layout.specs.Drafts.{Draft, WriterState, Stands}
+use Rattle.pos_layout.specs.Lists.{IsTable}
+use Rattle.pos_layout.specs.Drafts.{Draft, WriterState, Stands, begun, plot_of}
 use Rattle.pos_layout.specs.Writing.{Goes, IsStanding, OpensNext, SameFile, WritesOnly, with_table, with_tables}
 use Rattle.pos_layout.proofs.WorksLemmas.{stands_beside, writes_then}
 use Rattle.pos_marks.specs.declared.set.Marks.{Marks}
@@ -487,22 +494,52 @@ module _ (k limit : ℕ) (m2 m3 m4 m5 m6 : Marks) (places : List ℕ) (old now :
   pub levels_done : AreLevelsAdded k 6 m2 m3 m4 m5 m6 places old before after a b
   levels_done = all_levels.done
 
+-- ---- the plot of an id
+
+sixth_is_short : (id : List ℕ) (k : ℕ) (lists : List (List ℕ)) → length lists ≡ 7 → All (IsTable k) lists → count (record { id = id; k = k; tables = lists }) 6 ≤ 2 ^ (k + 1)
+unfolding numbers
+sixth_is_short id k lists seven all = (all 5 [] (omega arith)).few
+
+-- what a writer stands for that had nothing, after relocation of the tables of an id, is the plot of the id
+relocated_plot : (id : List ℕ) (k : ℕ) (w : WriterState) (lists : List (List ℕ)) (ts : TableLists) (place : ℕ → ℕ → ℕ) (v : View)
+    → Stands own w (with_tables lists (begun id k)) v → length lists ≡ 7 → Describes ts id k → IsRelocated ts (plot_of (with_tables lists (begun id k))) place
+    → PlotOf (plot_of (with_tables lists (begun id k))) id k × IsInRange (plot_of (with_tables lists (begun id k)))
+relocated_plot id k w lists ts place v stands seven describes is =
+    let p = plot_of (with_tables lists (begun id k)) in
+    let few : count p 6 ≤ 2 ^ (k + 1) = sixth_is_short id k lists seven stands.keeps.draft.ended in
+    (relocated_is_the_plot ts id k p place describes is refl refl seven, relocated_is_in_range ts id k p place describes is refl few)
+
 -- the tables of the file, where table 7 followed
 pub relocated : (k : ℕ) (m2 m3 m4 m5 m6 : Marks) (places : List ℕ) (old now : TablesState) (before after next : WriterState) (a b c : View) → before.count ≡ 0 → WritesOnly before.file a b → SameTables k old now a b
     → AreLevelsAdded k 6 m2 m3 m4 m5 m6 places old before after a b → IsLastAdded k places now after next b c → AreRelocated k old m2 m3 m4 m5 m6 before next a c
 relocated k m2 m3 m4 m5 m6 places old now before after next a b c none writes same levels last = record {
-  lists = levels.lists ++ last.lasts ∷ [];
-  seven = lists_grown levels.lists last.lasts 6 levels.as_long;
-  added = added_next levels.lists last.lasts before after next a b c none levels.added last.added;
-  relocated = λ ts p stands told sound used size are.
+  lists = lists;
+  seven = seven;
+  added = added;
+  relocated = made;
+  plot = λ ts id stands told described used empty.
+      let r = made ts (plot_of (with_tables lists (begun id k))) stands told (described_is_sound ts id k described) used refl refl in
+      relocated_plot id k next lists ts r.0 c (added (begun id k) empty) seven described r.1;
+} where
+  lists : List (List ℕ)
+  lists = levels.lists ++ last.lasts ∷ []
+
+  seven : length lists ≡ 7
+  seven = lists_grown levels.lists last.lasts 6 levels.as_long
+
+  added : Goes (with_tables lists) before next a c
+  added = added_next levels.lists last.lasts before after next a b c none levels.added last.added
+
+  made : (ts : TableLists) (p : PlotLists) → TablesStand k old ts a → a.tells ≡ true → IsSound ts k → AreAllUsed m2 m3 m4 m5 m6 ts a
+      → p.k ≡ k → p.tables ≡ lists → (place : ℕ → ℕ → ℕ) × IsRelocated ts p place × ((n : ℕ) → n < 6 → IsOneToOne ts (suc n) (place (suc n)))
+  made ts p stands told sound used size are =
       let numbered = levels.numbered ts stands told sound used in
       let seventh = last.seventh ts (same.stand ts stands) (writes.kept.frame.tells ∙ told) sound in (
         numbered.place,
         six_passes_relocate ts p numbered.place levels.lists last.lasts numbered.levels
             (subst (λ (n : ℕ). IsLastTable ts n (numbered.place 6) last.lasts) (sym size) (subst (λ (f : ℕ → ℕ). IsLastTable ts k f last.lasts) (sym numbered.top) seventh)) are,
         numbered.apart,
-      );
-}
+      )
 
 -- table 7 can be numbered
 pub last_can : (k : ℕ) (places : List ℕ) (old now : TablesState) (a b : View) → IsRecordSize k → (ts : TableLists) × TablesStand k old ts a → (pages_at old 6).count ≤ 2 ^ (k + 1) → SameTables k old now a b

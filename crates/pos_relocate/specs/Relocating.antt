@@ -10,8 +10,12 @@ use Rattle.pos_lists.specs.TableLists.{TableLists}
 use Rattle.pos_lists.specs.PlotLists.{PlotLists}
 use Rattle.pos_lists.specs.Sound.{IsSound}
 use Rattle.pos_lists.specs.Used.{IsUsed, MarksUsed}
+use Rattle.pos_lists.specs.Trees.{IsInRange}
+use Rattle.pos_laws.specs.Tables.{Describes}
+use Rattle.pos_laws.specs.PlotOf.{PlotOf}
 use Rattle.pos_laws.specs.Renumbering.{AreRenumbered, IsOneToOne, IsRelocated}
-use Rattle.pos_layout.specs.Drafts.{WriterState}
+use Rattle.pos_layout.specs.Layouts.{own}
+use Rattle.pos_layout.specs.Drafts.{WriterState, Stands, begun, plot_of}
 use Rattle.pos_layout.specs.Writing.{Goes, IsBegun, IsStanding, with_tables}
 use Rattle.pos_marks.specs.declared.set.Marks.{Marks}
 use Rattle.pos_marks.specs.Marks.{AreSealed, Marked, marks_file, place_count}
@@ -81,12 +85,15 @@ pub record AreLevelsAdded (k m : ℕ) (m2 m3 m4 m5 m6 : Marks) (kept : List ℕ)
 
 -- Seven tables were added: over a disk that tells, sound tables and marks of the used places, they are made of the tables by
 -- renumbering, and different used places of a level from 1 to 6 have different new ones.
+-- Over the tables of an id, and where the writer had nothing yet, they are the plot of the id, and each number points inside.
 pub record AreRelocated (k : ℕ) (tables : TablesState) (m2 m3 m4 m5 m6 : Marks) (before after : WriterState) (old new : View) : Type 0 where
   pub lists : List (List ℕ)
   pub seven : length lists ≡ 7
   pub added : Goes (with_tables lists) before after old new
   pub relocated : (ts : TableLists) (p : PlotLists) → TablesStand k tables ts old → old.tells ≡ true → IsSound ts k → AreAllUsed m2 m3 m4 m5 m6 ts old
       → p.k ≡ k → p.tables ≡ lists → (place : ℕ → ℕ → ℕ) × IsRelocated ts p place × ((n : ℕ) → n < 6 → IsOneToOne ts (suc n) (place (suc n)))
+  pub plot : (ts : TableLists) (id : List ℕ) → TablesStand k tables ts old → old.tells ≡ true → Describes ts id k → AreAllUsed m2 m3 m4 m5 m6 ts old
+      → Stands own before (begun id k) old → PlotOf (plot_of (with_tables lists (begun id k))) id k × IsInRange (plot_of (with_tables lists (begun id k)))
 
 -- ---- which sound tables it refuses: those with two used entries that can't be told apart
 

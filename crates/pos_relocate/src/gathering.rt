@@ -11,7 +11,7 @@ ghost use Rattle.pos_relocate.specs.Gathering.{CanPoint, HasNoPoint, IsPointing,
 
 use crate::chosen::Chosen;
 use crate::pointed::Pointed;
-use crate::push;
+use crate::{push, with_room};
 use pos_edge::{Disk, ScratchDamage, WorkFault};
 use pos_points::to_point;
 use pos_runs::Tables;
@@ -32,7 +32,7 @@ pub(crate) fn gather_values<D: Disk, const K: u32>(
         → (D.view disk.old).tells ≡ true → values.items ≡ ts.values) }
     ensures no_damage { (damage : _) → IsErrOf result (WorkFault.Scratch damage) → ⊥ }
 {
-    let mut values = Vec::new(alloc);
+    let mut values = with_room(alloc, tables.count(1))?;
     for i in 0..tables.count(1) {
         let value = tables.value(disk, i)?;
         push(&mut values, value)?;
@@ -66,14 +66,14 @@ pub(crate) fn gather<P: Pointed, D: Disk, const K: u32>(
         → Chooses chosen.old (pages_at tables.old (t - 1)).count p (D.view disk.old) → (D.view disk.old).tells ≡ true
         → SomeHasNoPoint ts (t - 2) p limit below.now tables.old damage }
 {
-    let mut entries = Vec::new(alloc);
+    let mut entries = with_room(alloc, tables.count(t))?;
     for i in 0..tables.count(t) {
         gather_place(tables, t, chosen, below, limit, i, &mut entries, disk)?;
     }
     Ok(entries)
 }
 
-/// Puts entry i of table t behind the others with its point, if it is numbered.
+// Puts entry i of table t behind the others with its point, if it is numbered.
 fn gather_place<P: Pointed, D: Disk, const K: u32>(
     tables: &mut Tables<K>,
     t: u8,
@@ -111,7 +111,7 @@ fn gather_place<P: Pointed, D: Disk, const K: u32>(
     Ok(())
 }
 
-/// Entry i of table t with its point.
+// Entry i of table t with its point.
 fn pointed_at<P: Pointed, D: Disk, const K: u32>(
     tables: &mut Tables<K>,
     t: u8,
@@ -161,7 +161,7 @@ pub(crate) fn outside(file: u32, at: u64, found: u64, limit: u64) -> ScratchDama
     }
 }
 
-/// The record at this place has a number that another has already.
+// The record at this place has a number that another has already.
 fn equal(file: u32, at: u64, found: u64, limit: u64) -> ScratchDamage
     ensures { result ≡ record { file = file; at = at; found = found; least = found + 1; limit = limit } }
 {

@@ -14,7 +14,7 @@ ghost use Rattle.pos_relocate.specs.Gathering.{CanNumber, IsPointing, IsLastAbov
 use crate::gathering::outside;
 use crate::numbering::add_sorted;
 use crate::pointed::{Narrow, Pointed, Wide};
-use crate::push;
+use crate::{push, with_room};
 use pos_edge::{Disk, WorkFault};
 use pos_layout::PlotWriter;
 use pos_runs::Tables;
@@ -49,7 +49,7 @@ pub(crate) fn last<D: Disk, const K: u32>(
     }
 }
 
-/// The same with entries of this width.
+// The same with entries of this width.
 fn add_last<P: Pointed, D: Disk, const K: u32>(
     alloc: Global,
     tables: &mut Tables<K>,
@@ -75,7 +75,7 @@ fn add_last<P: Pointed, D: Disk, const K: u32>(
     Ok(())
 }
 
-/// The number of each entry of table 7, by place.
+// The number of each entry of table 7, by place.
 fn gather_last<P: Pointed, D: Disk, const K: u32>(
     alloc: Global,
     tables: &mut Tables<K>,
@@ -93,7 +93,7 @@ fn gather_last<P: Pointed, D: Disk, const K: u32>(
         → TablesStand K tables.old ts (D.view disk.old) → (D.view disk.old).tells ≡ true
         → (i : ℕ) × (i < length places.now) × IsLastAbove ts K i (pages_at tables.old 7).number damage }
 {
-    let mut entries = Vec::new(alloc);
+    let mut entries = with_room(alloc, places.len() as u64)?;
     for i in 0..places.len() {
         let entry = numbered_at(tables, i as u64, places[i], disk)?;
         push(&mut entries, entry)?;
@@ -101,7 +101,7 @@ fn gather_last<P: Pointed, D: Disk, const K: u32>(
     Ok(entries)
 }
 
-/// Entry i of table 7, which has this new place, with its number.
+// Entry i of table 7, which has this new place, with its number.
 fn numbered_at<P: Pointed, D: Disk, const K: u32>(
     tables: &mut Tables<K>,
     i: u64,

@@ -54,14 +54,14 @@ pub(crate) fn renumber<D: Disk, const K: u32>(
     }
 }
 
-/// Whether the points of numbers below this limit have 64 bits.
+// Whether the points of numbers below this limit have 64 bits.
 fn is_narrow(limit: u64) -> bool
     ensures { IsTrue result ↔ (limit * (limit - 1) / 2 ≤ 2 ^ 64) }
 {
     u128::from(limit) * u128::from(limit.saturating_sub(1)) / 2 <= 1 << 64
 }
 
-/// The same with entries of this width.
+// The same with entries of this width.
 fn renumber_in<P: Pointed, D: Disk, const K: u32>(
     alloc: Global,
     tables: &mut Tables<K>,

@@ -7,7 +7,7 @@
 //! Source: the Construction document, "compression" and "sort on line points".
 #![tactic(auto)]
 
-ghost use Rattle.std.specs.Prelude.{◌≡◌, ◌++◌, ◌∷◌, [], IfErr, OnOk};
+ghost use Rattle.std.specs.Prelude.{◌≡◌, ◌++◌, ◌∷◌, [], IfErr, IfOk, OnOk};
 
 mod chosen;
 mod gathering;
@@ -17,8 +17,19 @@ mod numbering;
 mod pointed;
 mod relocating;
 
+pub use numbering::number;
+pub use pointed::{Narrow, Pointed, Wide};
 use pos_edge::WorkFault;
 pub use relocating::relocate_tables;
+use std::alloc::Global;
+
+// No items, with room for so many.
+fn with_room<T: Copy>(alloc: Global, count: u64) -> Result<Vec<T>, WorkFault>
+    ensures ok { IfOk result (λ items. items.items ≡ []) }
+    ensures fault { IfErr result (λ fault. fault ≡ WorkFault.Memory) }
+{
+    Vec::with_capacity(alloc, count as usize).map_err(|_| WorkFault::Memory)
+}
 
 // Appends an item; the only error is want of memory.
 #[inline(always)]
@@ -31,6 +42,3 @@ fn push<T: Copy>(items: &mut Vec<T>, item: T) -> Result<(), WorkFault>
     }
     Ok(())
 }
-
-#[cfg(test)]
-mod tests;

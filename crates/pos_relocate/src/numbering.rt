@@ -18,7 +18,7 @@ use std::alloc::Global;
 ///
 /// `count` is how many places the level has, `file` the number of the scratch file of its pairs. `Scratch` where a point
 /// comes twice.
-pub(crate) fn number<P: Pointed, D: Disk, const K: u32>(
+pub fn number<P: Pointed, D: Disk, const K: u32>(
     alloc: Global,
     records: Vec<P>,
     count: u64,
@@ -73,7 +73,7 @@ pub(crate) fn add_sorted<P: Pointed, D: Disk, const K: u32>(
     Ok(records)
 }
 
-/// Adds the points of sorted entries to the open table. `Scratch` at the first that is the one before it.
+// Adds the points of sorted entries to the open table. `Scratch` at the first that is the one before it.
 fn add_points<P: Pointed, D: Disk, const K: u32>(
     records: &[P],
     file: u32,
@@ -113,7 +113,7 @@ fn add_points<P: Pointed, D: Disk, const K: u32>(
     Ok(())
 }
 
-/// The place of each entry among the sorted ones, by its old place.
+// The place of each entry among the sorted ones, by its old place.
 fn places_of<P: Pointed>(alloc: Global, records: &[P], count: u64) -> Result<Vec<u64>, WorkFault>
     requires { AreShuffled count (map P.pair records.now) }
     ensures moved { IfOk result (λ places. AreMoved (map P.pair records.now) places.items) }

@@ -3,7 +3,7 @@ ghost use Rattle.std.specs.Prelude.{◌≡◌, ◌^◌, ◌<◌, ℕ};
 ghost use Rattle.std.specs.List.Sorted.{IsNonDecreasingBy, IsPermutation};
 
 /// An entry of a table behind its point, which is a line point or a number of table 7. No call takes memory.
-pub(crate) trait Pointed: Copy {
+pub trait Pointed: Copy {
     /// The point and the old place.
     ghost pair: { Self → ℕ × ℕ };
 
@@ -31,14 +31,14 @@ pub(crate) trait Pointed: Copy {
 
 /// An entry whose point has 64 bits. It sorts in half the time of the other.
 #[derive(Clone, Copy, Debug, PartialEq, Eq)]
-pub(crate) struct Narrow {
+pub struct Narrow {
     point: u64,
     old: u64,
 }
 
 /// An entry whose point has up to 128 bits.
 #[derive(Clone, Copy, Debug, PartialEq, Eq)]
-pub(crate) struct Wide {
+pub struct Wide {
     point: u128,
     old: u64,
 }

@@ -52,8 +52,8 @@ pub fn relocate_tables<D: Disk, const K: u32>(
     last(alloc, &mut tables, &places, writer, disk)
 }
 
-/// Renumbers the used entries of tables 2 to 7, each table over the numbers of the one below, and answers the new places of
-/// table 7.
+// Renumbers the used entries of tables 2 to 7, each table over the numbers of the one below, and answers the new places of
+// table 7.
 fn renumber_levels<D: Disk, const K: u32>(
     alloc: Global,
     tables: &mut Tables<K>,

@@ -1,15 +1,14 @@
 use Rattle.std.proofs.lemmas.Result.{err_from_is_err_and}
 use Rattle.std.proofs.Common.{◌≡◌, ◌≤◌, length, Err, Ok, refl, sym, ap, ◌∙◌, subst, inl, inr, arith}
 use Rattle.pos_edge.proofs.ScratchWorkLemmas.{between_done}
-use Rattle.pos_laws.proofs.Sound.{described_is_sound}
 use Rattle.pos_layout.specs.Layouts.{own}
-use Rattle.pos_layout.specs.Drafts.{Stands, begun, plot_of}
+use Rattle.pos_layout.specs.Drafts.{Stands, begun}
 use Rattle.pos_layout.specs.Writing.{with_tables}
 use Rattle.pos_layout.proofs.FileLemmas.{length-columns_for}
 use Rattle.pos_plot.specs.Steps.{IsFill}
 use Rattle.pos_plot.specs.Faults.{of_forward, of_work}
 use Rattle.pos_plot.proofs.StartLemmas.{failure_of_work}
-use Rattle.pos_plot.proofs.FillLemmas.{SoFar, size_is_few, few_made, number_is_few, there_is_room, few_in_all, so_far_none, so_far_then, forward_cause, failure_of_forward, prune_cause, relocate_cause, filling_refused, filling_stands, filling_standing, filling_outside, filled, has_filled, relocated_plot, can_relocate, all_used}
+use Rattle.pos_plot.proofs.FillLemmas.{SoFar, size_is_few, few_made, number_is_few, there_is_room, few_in_all, so_far_none, so_far_then, forward_cause, failure_of_forward, prune_cause, relocate_cause, filling_refused, filling_stands, filling_standing, filling_outside, filled, has_filled, can_relocate, all_used}
 use Rattle.pos_plot.proofs.filling.fill.Goals as goal
 
 pub forward-requires : goal.forward-requires
@@ -158,7 +157,7 @@ returns g c =
       fill = filled s u w p a m second c.requires.stands c.requires.other d ens.pass.writes id g.row.K c.args.plan.now (Ok tt) tt (ens.pass.quiet ∙ (c.in_ok-kept.ensures.quiet ∙ made.quiet));
       ok = has_filled s u w p a m second c.requires.stands c.requires.other d ens.pass.writes id g.row.K c.args.plan.now after (with_tables lists p) (g.met.D.Disk.is_disk c.prune.new.disk) c.requires.fresh
           done ens.same.file ended made.none_above stands
-          (λ told. let r = ens.ok.relocated ts.0 (plot_of (with_tables lists p)) stand.tables (second.kept.tells ∙ told) (described_is_sound ts.0 id g.row.K (ts.2 (first.kept.tells ∙ told)))
-          (all_used g.row.K u kept.tables kept.m2 kept.m3 kept.m4 kept.m5 kept.m6 ts.0 m (second.kept.tells ∙ told) stand) refl refl in
-          relocated_plot id g.row.K after lists ts.0 r.0 d stands ens.ok.seven (ts.2 (first.kept.tells ∙ told)) r.1);
+          (λ told. ens.ok.plot ts.0 id stand.tables (second.kept.tells ∙ told) (ts.2 (first.kept.tells ∙ told))
+          (all_used g.row.K u kept.tables kept.m2 kept.m3 kept.m4 kept.m5 kept.m6 ts.0 m (second.kept.tells ∙ told) stand)
+          (filling_stands s u w p a m second c.requires.stands c.requires.other));
     }

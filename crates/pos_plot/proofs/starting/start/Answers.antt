@@ -1,6 +1,6 @@
 use Rattle.std.proofs.lemmas.Result.{err_from_is_err_and}
 use Rattle.std.proofs.Common.{Err, sym, ap, ◌∙◌, subst}
-use Rattle.pos_plot.specs.Steps.{IsStart}
+use Rattle.pos_plot.specs.Steps.{IsFileStart}
 use Rattle.pos_layout.proofs.ShutLemmas.{created_is_fresh}
 use Rattle.pos_plot.proofs.StartLemmas.{start_refused, start_failed, start_went_well, started}
 use Rattle.pos_plot.proofs.starting.start.Goals as goal
@@ -14,7 +14,7 @@ returns-in_err-file-clause-start g c =
     let o = g.D.Disk.view c.args.disk.now in
     let a = g.D.Disk.view c.create.new.self in
     let p = err_from_is_err_and c.from_residual.result c.from_residual.ensures.1 in
-    subst (λ r. IsStart c.args.name.now r o a) (sym (p.1 ∙ ap (λ y. Err y) p.2))
+    subst (λ r. IsFileStart c.args.name.now r o a) (sym (p.1 ∙ ap (λ y. Err y) p.2))
     (start_refused _ c.args.name.now c.in_err-file.field-0.0 o a (g.met.D.Disk.is_disk c.args.disk.now) c.in_err-file.ensures.kept
     (λ is. c.in_err-file.ensures.exists (ap (λ y. Err y) is)) (λ is. c.in_err-file.ensures.failed (ap (λ y. Err y) is)) (λ is. c.in_err-file.ensures.memory (ap (λ y. Err y) is)))
 
@@ -24,7 +24,7 @@ returns-in_err-writer-clause-start g c =
     let m = g.D.Disk.view c.create.new.self in
     let a = g.D.Disk.view c.begin.new.disk in
     let p = err_from_is_err_and c.from_residual-in_err-writer.result c.from_residual-in_err-writer.ensures.1 in
-    subst (λ r. IsStart c.args.name.now r o a) (sym (p.1 ∙ ap (λ y. Err y) p.2))
+    subst (λ r. IsFileStart c.args.name.now r o a) (sym (p.1 ∙ ap (λ y. Err y) p.2))
     (start_failed _ c.args.name.now c.in_ok-file.file.0 c.in_err-writer.field-0.0 o m a (g.met.D.Disk.is_disk c.create.new.self) (g.met.D.Disk.is_disk c.begin.new.disk)
     c.in_ok-file.ensures.kept c.in_ok-file.ensures.ok c.in_ok-file.ensures.quiet c.in_err-writer.ensures.works)
 

@@ -1,4 +1,4 @@
-use Rattle.std.proofs.Common.{◌≡◌, ℕ, ◌+◌, ◌-◌, ◌*◌, ◌^◌, map, List, Err, sym, ap, ◌∙◌, subst, arith, lit<}
+use Rattle.std.proofs.Common.{◌≡◌, ℕ, ◌+◌, ◌-◌, ◌*◌, ◌^◌, map, List, Err, refl, sym, ap, ◌∙◌, subst, arith, lit<}
 use Rattle.std.proofs.lemmas.Result.{err_from_is_err_and}
 use Rattle.pos_edge.specs.declared.scratch.WorkFault.TheVariants.{Scratch}
 use Rattle.std.specs.Prelude.{slice_index}
@@ -6,7 +6,7 @@ use Rattle.pos_runs.specs.Runs.{pages_at}
 use Rattle.pos_lists.specs.Numbering.{AreGathered}
 use Rattle.pos_laws.specs.Renumbering.{point_at}
 use Rattle.pos_relocate.specs.Passes.{AreListed}
-use Rattle.pos_relocate.proofs.GatheringLemmas.{gathering_done, gathering_exit, gathering_then}
+use Rattle.pos_relocate.proofs.GatheringLemmas.{gathering_done, gathering_exit, gathering_spent, gathering_then, reads_none, spent_no_damage}
 use Rattle.pos_relocate.proofs.GatheredLemmas.{can_now, chooses_now, chooses_of, gathered_next, gathered_none, some_no_point, GatheredSoFar}
 use Rattle.pos_relocate.proofs.gathering.gather.Goals as goal
 
@@ -14,7 +14,18 @@ pub loop-i-init : goal.loop-i-init
 loop-i-init g c =
     let v = g.D.Disk.view c.args.disk.now in
     subst (λ (items : List g.row.P.Denot). GatheredSoFar g.row.K c.args.t c.args.limit g.P.Pointed.bound 0 c.args.below.now (map g.P.Pointed.pair items) c.args.chosen.now c.args.chosen.now c.args.tables.now c.args.tables.now v v)
-    (sym c.new-entries.ensures.items) (gathered_none g.row.K c.args.t c.args.limit g.P.Pointed.bound c.args.below.now c.args.chosen.now c.args.tables.now v c.requires.can c.requires.chooses)
+    (sym c.in_ok-entries.ensures.ok) (gathered_none g.row.K c.args.t c.args.limit g.P.Pointed.bound c.args.below.now c.args.chosen.now c.args.tables.now v c.requires.can c.requires.chooses)
+
+pub returns-in_err-entries-clause-reading : goal.returns-in_err-entries-clause-reading
+returns-in_err-entries-clause-reading g c =
+    let e = err_from_is_err_and c.from_residual.result c.from_residual.ensures.1 in
+    let v = g.D.Disk.view c.args.disk.now in
+    gathering_spent c.from_residual.result e.0 c.in_err-entries.field-0.0 v v e.1 e.2 c.in_err-entries.ensures.fault (reads_none v) refl
+
+pub returns-in_err-entries-clause-damage : goal.returns-in_err-entries-clause-damage
+returns-in_err-entries-clause-damage g c = λ damage is ts p stands chooses told.
+    let e = err_from_is_err_and c.from_residual.result c.from_residual.ensures.1 in
+    absurd (spent_no_damage c.from_residual.result e.0 c.in_err-entries.field-0.0 damage e.1 e.2 c.in_err-entries.ensures.fault is)
 
 pub loop-i-preserved : goal.loop-i-preserved
 loop-i-preserved g c =
@@ -47,16 +58,16 @@ gather_place-requires g c =
 
 pub returns-in_err-gather_place-clause-reading : goal.returns-in_err-gather_place-clause-reading
 returns-in_err-gather_place-clause-reading g c =
-    let e = err_from_is_err_and c.from_residual.result c.from_residual.ensures.1 in
+    let e = err_from_is_err_and c.from_residual-in_err-gather_place.result c.from_residual-in_err-gather_place.ensures.1 in
     let a = g.D.Disk.view c.args.disk.now in
     let b = g.D.Disk.view c.loop-i.disk in
     let d = g.D.Disk.view c.gather_place.new.disk in
-    gathering_exit c.from_residual.result e.0 c.in_err-gather_place.field-0.0 a d e.1 e.2
+    gathering_exit c.from_residual-in_err-gather_place.result e.0 c.in_err-gather_place.field-0.0 a d e.1 e.2
     (gathering_then (Err c.in_err-gather_place.field-0.0) a b d c.loop-i.invariant.only c.loop-i.invariant.faults c.in_err-gather_place.ensures.reading)
 
 pub returns-in_err-gather_place-clause-damage : goal.returns-in_err-gather_place-clause-damage
 returns-in_err-gather_place-clause-damage g c = λ damage is ts p stands chooses told.
-    let e = err_from_is_err_and c.from_residual.result c.from_residual.ensures.1 in
+    let e = err_from_is_err_and c.from_residual-in_err-gather_place.result c.from_residual-in_err-gather_place.ensures.1 in
     let same : c.in_err-gather_place.field-0.0 ≡ Scratch damage = (let x = e.1 in let y = e.2 in cc) in
     let k = g.row.K in
     let t = c.args.t in

@@ -1,12 +1,23 @@
-use Rattle.std.proofs.Common.{ℕ, ◌+◌, List, sym, ◌∙◌, subst, arith}
+use Rattle.std.proofs.Common.{ℕ, ◌+◌, List, refl, sym, ◌∙◌, subst, arith}
 use Rattle.std.proofs.lemmas.Result.{err_from_is_err_and}
-use Rattle.pos_relocate.proofs.GatheringLemmas.{gathering_done, gathering_lost, gathering_spent, lost_no_damage, spent_no_damage, reads_then}
+use Rattle.pos_relocate.proofs.GatheringLemmas.{gathering_done, gathering_lost, gathering_spent, lost_no_damage, spent_no_damage, reads_none, reads_then}
 use Rattle.pos_relocate.proofs.ValuesLemmas.{ValuesSoFar, values_below, values_more, values_none, values_whole}
 use Rattle.pos_relocate.proofs.gathering.gather_values.Goals as goal
 
 pub loop-i-init : goal.loop-i-init
-loop-i-init g c = subst (λ (vs : List ℕ). ValuesSoFar g.row.K 0 vs c.args.tables.now c.args.tables.now (g.D.Disk.view c.args.disk.now) (g.D.Disk.view c.args.disk.now)) (sym c.new-values.ensures.items)
+loop-i-init g c = subst (λ (vs : List ℕ). ValuesSoFar g.row.K 0 vs c.args.tables.now c.args.tables.now (g.D.Disk.view c.args.disk.now) (g.D.Disk.view c.args.disk.now)) (sym c.in_ok-values.ensures.ok)
     (values_none g.row.K c.args.tables.now (g.D.Disk.view c.args.disk.now) c.requires.stands)
+
+pub returns-in_err-values-clause-reading : goal.returns-in_err-values-clause-reading
+returns-in_err-values-clause-reading g c =
+    let e = err_from_is_err_and c.from_residual.result c.from_residual.ensures.1 in
+    let v = g.D.Disk.view c.args.disk.now in
+    gathering_spent c.from_residual.result e.0 c.in_err-values.field-0.0 v v e.1 e.2 c.in_err-values.ensures.fault (reads_none v) refl
+
+pub returns-in_err-values-clause-no_damage : goal.returns-in_err-values-clause-no_damage
+returns-in_err-values-clause-no_damage g c = λ d is.
+    let e = err_from_is_err_and c.from_residual.result c.from_residual.ensures.1 in
+    spent_no_damage c.from_residual.result e.0 c.in_err-values.field-0.0 d e.1 e.2 c.in_err-values.ensures.fault is
 
 pub loop-i-preserved : goal.loop-i-preserved
 loop-i-preserved g c =
@@ -20,14 +31,14 @@ loop-i-preserved g c =
 
 pub returns-in_err-value-clause-reading : goal.returns-in_err-value-clause-reading
 returns-in_err-value-clause-reading g c =
-    let e = err_from_is_err_and c.from_residual.result c.from_residual.ensures.1 in
-    gathering_lost c.from_residual.result e.0 c.in_err-value.field-0.0 (g.D.Disk.view c.args.disk.now) (g.D.Disk.view c.loop-i.disk) (g.D.Disk.view c.value.new.disk) e.1 e.2
+    let e = err_from_is_err_and c.from_residual-in_err-value.result c.from_residual-in_err-value.ensures.1 in
+    gathering_lost c.from_residual-in_err-value.result e.0 c.in_err-value.field-0.0 (g.D.Disk.view c.args.disk.now) (g.D.Disk.view c.loop-i.disk) (g.D.Disk.view c.value.new.disk) e.1 e.2
     c.in_err-value.ensures.fault c.loop-i.invariant.only c.in_err-value.ensures.read.only c.in_err-value.ensures.failed
 
 pub returns-in_err-value-clause-no_damage : goal.returns-in_err-value-clause-no_damage
 returns-in_err-value-clause-no_damage g c = λ d is.
-    let e = err_from_is_err_and c.from_residual.result c.from_residual.ensures.1 in
-    lost_no_damage c.from_residual.result e.0 c.in_err-value.field-0.0 d e.1 e.2 c.in_err-value.ensures.fault is
+    let e = err_from_is_err_and c.from_residual-in_err-value.result c.from_residual-in_err-value.ensures.1 in
+    lost_no_damage c.from_residual-in_err-value.result e.0 c.in_err-value.field-0.0 d e.1 e.2 c.in_err-value.ensures.fault is
 
 pub returns-in_err-push-clause-reading : goal.returns-in_err-push-clause-reading
 returns-in_err-push-clause-reading g c =

@@ -6,7 +6,7 @@ use Rattle.pos_lists.specs.Numbering.{AreGathered}
 use Rattle.pos_laws.specs.Renumbering.{last_at}
 use Rattle.pos_relocate.specs.Passes.{AreListed}
 use Rattle.pos_relocate.specs.Gathering.{IsLastAbove}
-use Rattle.pos_relocate.proofs.GatheringLemmas.{gathering_done, gathering_exit, gathering_spent, gathering_then, reads_then, spent_no_damage}
+use Rattle.pos_relocate.proofs.GatheringLemmas.{gathering_done, gathering_exit, gathering_spent, gathering_then, reads_none, reads_then, spent_no_damage}
 use Rattle.pos_relocate.proofs.LastLemmas.{LastsSoFar, lasts_next, lasts_none, lasts_stand, lasts_there}
 use Rattle.pos_relocate.proofs.lasts.gather_last.Goals as goal
 
@@ -14,7 +14,18 @@ pub loop-i-init : goal.loop-i-init
 loop-i-init g c =
     let v = g.D.Disk.view c.args.disk.now in
     subst (λ (items : List g.row.P.Denot). LastsSoFar g.row.K g.P.Pointed.bound 0 c.args.places.now (map g.P.Pointed.pair items) c.args.tables.now c.args.tables.now v v)
-    (sym c.new-entries.ensures.items) (lasts_none g.row.K g.P.Pointed.bound c.args.places.now c.args.tables.now v c.requires)
+    (sym c.in_ok-entries.ensures.ok) (lasts_none g.row.K g.P.Pointed.bound c.args.places.now c.args.tables.now v c.requires)
+
+pub returns-in_err-entries-clause-reading : goal.returns-in_err-entries-clause-reading
+returns-in_err-entries-clause-reading g c =
+    let e = err_from_is_err_and c.from_residual.result c.from_residual.ensures.1 in
+    let v = g.D.Disk.view c.args.disk.now in
+    gathering_spent c.from_residual.result e.0 c.in_err-entries.field-0.0 v v e.1 e.2 c.in_err-entries.ensures.fault (reads_none v) refl
+
+pub returns-in_err-entries-clause-damage : goal.returns-in_err-entries-clause-damage
+returns-in_err-entries-clause-damage g c = λ damage is ts stands told.
+    let e = err_from_is_err_and c.from_residual.result c.from_residual.ensures.1 in
+    absurd (spent_no_damage c.from_residual.result e.0 c.in_err-entries.field-0.0 damage e.1 e.2 c.in_err-entries.ensures.fault is)
 
 pub loop-i-preserved : goal.loop-i-preserved
 loop-i-preserved g c =
@@ -40,16 +51,16 @@ numbered_at-requires g c =
 
 pub returns-in_err-entry-clause-reading : goal.returns-in_err-entry-clause-reading
 returns-in_err-entry-clause-reading g c =
-    let e = err_from_is_err_and c.from_residual.result c.from_residual.ensures.1 in
+    let e = err_from_is_err_and c.from_residual-in_err-entry.result c.from_residual-in_err-entry.ensures.1 in
     let a = g.D.Disk.view c.args.disk.now in
     let b = g.D.Disk.view c.loop-i.disk in
     let d = g.D.Disk.view c.numbered_at.new.disk in
-    gathering_exit c.from_residual.result e.0 c.in_err-entry.field-0.0 a d e.1 e.2
+    gathering_exit c.from_residual-in_err-entry.result e.0 c.in_err-entry.field-0.0 a d e.1 e.2
     (gathering_then (Err c.in_err-entry.field-0.0) a b d c.loop-i.invariant.only c.loop-i.invariant.faults c.in_err-entry.ensures.reading)
 
 pub returns-in_err-entry-clause-damage : goal.returns-in_err-entry-clause-damage
 returns-in_err-entry-clause-damage g c = λ damage is ts stands told.
-    let e = err_from_is_err_and c.from_residual.result c.from_residual.ensures.1 in
+    let e = err_from_is_err_and c.from_residual-in_err-entry.result c.from_residual-in_err-entry.ensures.1 in
     let same : c.in_err-entry.field-0.0 ≡ Scratch damage = (let x = e.1 in let y = e.2 in cc) in
     let was = c.loop-i.invariant in
     let found = c.in_err-entry.ensures.damage damage (ap (λ f. Err f) same) ts (was.same.stand ts stands) (was.only.kept.tells ∙ told) in

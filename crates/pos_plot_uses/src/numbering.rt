@@ -1,15 +1,25 @@
-ghost use Rattle.std.specs.Prelude.{◌≡◌, ◌^◌, ◌<◌, ◌≤◌, All};
+//! Entries of a level that are numbered by their points, in both widths.
+ghost use Rattle.std.specs.Prelude.{◌≡◌, ◌^◌, ◌<◌, ◌≤◌, ◌++◌, ◌∷◌, [], All, IfErr, OnOk};
 
-use crate::numbering::number;
-use crate::pointed::{Narrow, Pointed, Wide};
-use crate::push;
 use pos_edge::{CreateFault, Disk, MemoryDisk, ScratchDamage, WorkFault};
 use pos_layout::PlotWriter;
+use pos_relocate::{Narrow, Pointed, Wide, number};
 use pos_tuple::{Id, Size};
 use std::alloc::Global;
 use std::test::Fail;
 
-/// The new places of a level of five places at size 10, of which places 0, 2 and 4 have these points.
+// Appends an item; the only error is want of memory.
+fn push<T: Copy>(items: &mut Vec<T>, item: T) -> Result<(), WorkFault>
+    ensures ok { OnOk result (items.new.items ≡ items.old.items ++ item ∷ []) }
+    ensures fault { IfErr result (λ fault. fault ≡ WorkFault.Memory) }
+{
+    if items.push(item).is_err() {
+        return Err(WorkFault::Memory);
+    }
+    Ok(())
+}
+
+// The new places of a level of five places at size 10, of which places 0, 2 and 4 have these points.
 fn places_of_three<P: Pointed>(alloc: Global, points: &[u128; 3]) -> Result<Vec<u64>, WorkFault>
     requires room { 2 ^ 22 ≤ P.bound }
     requires small { All (λ point. point < 2 ^ 22) points.now }
