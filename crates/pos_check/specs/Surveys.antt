@@ -61,9 +61,9 @@ pub record IsFileCheck (name : List ℕ) (n : ℕ) (result : Result Summary Surv
 -- ---- a survey
 
 -- no plot was made; or one was, and its check went well or did not
-abbrev pub HasPlotted : Result (Counts × Summary) SurveyFault → Type 0
-HasPlotted (Err (Plot fault)) = ⊥
-HasPlotted _ = Unit {0}
+abbrev pub HasSurveyPlotted : Result (Counts × Summary) SurveyFault → Type 0
+HasSurveyPlotted (Err (Plot fault)) = ⊥
+HasSurveyPlotted _ = Unit {0}
 
 -- the answers of a survey that finds its file's name there
 abbrev pub StopsAtOnce : Result (Counts × Summary) SurveyFault → Type 0
@@ -99,9 +99,9 @@ pub record IsSurvey (number k n : ℕ) (name base : List ℕ) (result : Result (
   pub cause : IfErr result (λ fault. IsSurveyCause number k name base fault old new)
   pub quiet : (FailsOnDisk result → ⊥) → SameFaults old new
   -- where a plot was made, no table has more entries than the size allows, each other name holds what it held, and the plot stands
-  pub within : HasPlotted result → old.tells ≡ true → (m : ℕ) → 0 < m → m ≤ 6 → IsAbove (survey_id number) k m (2 ^ (k + 1)) → ⊥
-  pub same : HasPlotted result → (other : List ℕ) → (other ≡ name → ⊥) → new.contents other ≡ old.contents other
-  pub left : HasPlotted result → old.tells ≡ true → (counts : Counts) × IsLeftPlot (survey_id number) k name counts new
+  pub within : HasSurveyPlotted result → old.tells ≡ true → (m : ℕ) → 0 < m → m ≤ 6 → IsAbove (survey_id number) k m (2 ^ (k + 1)) → ⊥
+  pub same : HasSurveyPlotted result → (other : List ℕ) → (other ≡ name → ⊥) → new.contents other ≡ old.contents other
+  pub left : HasSurveyPlotted result → old.tells ≡ true → (counts : Counts) × IsLeftPlot (survey_id number) k name counts new
   -- where all went well, this is its summary
   pub challenges : IfOk result (λ both. both.1.challenges ≡ n)
   pub summed : IfOk result (λ both. old.tells ≡ true → HasSurveyed number k n name both.0 both.1 new)

@@ -10,13 +10,9 @@ mod laws;
 mod place;
 mod summary;
 mod surveying;
-mod tuple;
 
 pub use challenges::{MOST_CHALLENGES, check_challenge, survey_id};
 pub use checking::check;
 pub use laws::{a_plots_summary_is_of_its_proofs, a_whole_files_summary_is_one};
 pub use summary::Summary;
 pub use surveying::{SurveyFault, survey};
-
-#[cfg(test)]
-mod tests;

@@ -1,7 +1,5 @@
 //! The quality of a place of table 7 that shows a proof.
-ghost use Rattle.std.specs.Prelude.{◌≡◌, ◌^◌, ◌<◌, ℕ, List, All, IfOk, IsErrOf, Ok, true, false, length};
-ghost use Rattle.pos_tuple.specs.Proof.{Proof};
-ghost use Rattle.pos_order.specs.Order.{Turning};
+ghost use Rattle.std.specs.Prelude.{◌≡◌, ◌^◌, ◌<◌, ℕ, List, All, IfOk, IsErrOf, Ok};
 ghost use Rattle.pos_order.specs.Quality.{pair_quality, quality_index};
 ghost use Rattle.pos_laws.specs.Listing.{pair_in};
 ghost use Rattle.pos_layout.specs.declared.damage.Damage.{Damage};
@@ -9,14 +7,14 @@ ghost use Rattle.pos_layout.specs.Fields.{count_of};
 ghost use Rattle.pos_layout.specs.Layouts.{own};
 ghost use Rattle.pos_reader.specs.Plots.{IsOpen, IsPlotFile};
 ghost use Rattle.pos_reader.specs.Readings.{IsReading};
-ghost use Rattle.pos_harvest.specs.Places.{FailsAsProof, IsNoProof, ShowsProof, quality_in};
+ghost use Rattle.pos_harvest.specs.Places.{FailsAsProof, ShowsProof, quality_in};
 
-use crate::tuple::values_at;
 use pos_edge::Disk;
+use pos_harvest::{is_turned, values_at};
 use pos_layout::Damage;
-use pos_order::{entry_in_proof_order, pair_quality};
+use pos_order::pair_quality;
 use pos_reader::{Plot, ReadRefusal};
-use pos_tuple::{Challenge, Size, challenge_value};
+use pos_tuple::{Challenge, Size};
 
 /// The quality of a place of table 7, if it shows a proof for the challenge; else why it shows none. Both follow from its 64
 /// values, so each number is read once. At most 128 reads, and no memory.
@@ -38,7 +36,7 @@ pub fn proved_quality<D: Disk>(
 {
     let mut values = values_at(plot, disk, place)?;
     let quality = branch_quality(challenge, plot.size(), &values);
-    if is_proof(plot, challenge, &mut values) {
+    if is_turned(plot, challenge, &mut values) {
         Ok(quality)
     } else {
         Err(ReadRefusal::Damage(Damage::NotAProof { at: place }))
@@ -52,18 +50,4 @@ fn branch_quality(challenge: &Challenge, size: Size, values: &[u64; 64]) -> [u8;
 {
     let pair = 2 * (challenge.0[31] % 32) as usize;
     pair_quality(challenge, size, values[pair], values[pair + 1])
-}
-
-/// Whether 64 values are, in one order of halves, a proof of the plot's id and size for the challenge; they are left in that
-/// order.
-fn is_proof(plot: &Plot, challenge: &Challenge, values: &mut [u64; 64]) -> bool
-    requires { All (λ x. x < 2 ^ plot.now.header.size) values.old }
-    ensures turned { result ≡ true → Turning 6 values.new values.old }
-    ensures proof { result ≡ true → Proof plot.now.header.id.0 plot.now.header.size challenge.now.0 values.new }
-    ensures none { result ≡ false → IsNoProof plot.now.header.id.0 plot.now.header.size challenge.now.0 values.old }
-{
-    match entry_in_proof_order(&plot.id(), plot.size(), values) {
-        Some(root) => root.y / 64 == challenge_value(plot.size(), challenge),
-        None => false,
-    }
 }

@@ -22,7 +22,4 @@ pub use laws::{
 pub use listing::{list_proofs, list_qualities};
 pub use refusal::ListRefusal;
 pub use span::find;
-pub use tuple::proof_at;
-
-#[cfg(test)]
-mod tests;
+pub use tuple::{is_turned, proof_at, values_at};

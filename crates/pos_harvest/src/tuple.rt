@@ -53,8 +53,9 @@ pub fn proof_at<D: Disk>(
     }
 }
 
-/// Turns 64 values into the order in which they are a proof of the plot's id and size for the challenge, if there is one.
-fn is_turned(plot: &Plot, challenge: &Challenge, values: &mut [u64; 64]) -> bool
+/// Turns 64 values into the order in which they are a proof of the plot's id and size for the challenge, if there is one: true
+/// exactly where one of their orders of halves is a proof, and then they are left in it. No memory.
+pub fn is_turned(plot: &Plot, challenge: &Challenge, values: &mut [u64; 64]) -> bool
     requires { All (λ x. x < 2 ^ plot.now.header.size) values.old }
     ensures turned { result ≡ true → Turning 6 values.new values.old }
     ensures proof { result ≡ true → Proof plot.now.header.id.0 plot.now.header.size challenge.now.0 values.new }
@@ -69,7 +70,14 @@ fn is_turned(plot: &Plot, challenge: &Challenge, values: &mut [u64; 64]) -> bool
 }
 
 /// The 64 values to which a place of table 7 unfolds.
-fn values_at<D: Disk>(plot: &mut Plot, disk: &mut D, place: u64) -> Result<[u64; 64], ReadRefusal>
+///
+/// Over a disk that tells, the answer is these values, or the first damage on the way: of table 7, then of table 6 down, the
+/// lesser place before the greater, each with all that lies below it. At most 128 reads, and no memory.
+pub fn values_at<D: Disk>(
+    plot: &mut Plot,
+    disk: &mut D,
+    place: u64,
+) -> Result<[u64; 64], ReadRefusal>
     requires is_open { IsOpen plot.old (D.view disk.old) }
     requires place { place < count_of plot.old.header 7 }
     ensures reading { IsReading 128 result plot.old plot.new (D.view disk.old) (D.view disk.new) }

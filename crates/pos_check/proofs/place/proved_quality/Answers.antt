@@ -17,8 +17,8 @@ returns-in_err-values-clause-damage g c = λ d is b holds.
     let same = handed_on c.in_err-values.field-0.0 d c.from_residual.result (p.1 ∙ ap (λ e. Err e) p.2) is in
     inl (damage_of c.in_err-values.field-0.0 d (tuple_at own b c.args.place) same (c.in_err-values.ensures.values b holds))
 
-pub returns-then-is_proof-clause-quality : goal.returns-then-is_proof-clause-quality
-returns-then-is_proof-clause-quality g c = λ b holds.
+pub returns-then-is_turned-clause-quality : goal.returns-then-is_turned-clause-quality
+returns-then-is_turned-clause-quality g c = λ b holds.
     let challenge = c.args.challenge.now.0 in
     let pair = pair_in (quality_index challenge) c.in_ok-values.values in
     let size : c.size.result ≡ (header_in b).size =
