@@ -7,6 +7,7 @@ pub mod CheckLemmas
 pub mod NameLemmas
 pub mod PlotLemmas
 pub mod PlottingLemmas
+pub mod StatusLemmas
 pub mod SurveyWords
 pub mod SurveyingLemmas
 pub mod TextLemmas

@@ -39,13 +39,13 @@ verify_command (id ∷ k ∷ challenge ∷ proof ∷ []) =
 verify_command words = None
 
 -- a command that makes a plot, if all words are what it takes
-abbrev pub plot_of : Option (List ℕ) → Option ℕ → Option (List ℕ × List ℕ) → Option Command
-plot_of (Some id) (Some k) (Some names) = Some (MakePlot id k names.0 names.1)
-plot_of id k names = None
+abbrev pub make_plot_of : Option (List ℕ) → Option ℕ → Option (List ℕ × List ℕ) → Option Command
+make_plot_of (Some id) (Some k) (Some names) = Some (MakePlot id k names.0 names.1)
+make_plot_of id k names = None
 
 -- the words behind `plot`: ID K FILE SCRATCH
 abbrev pub plot_command : List (List ℕ) → Option Command
-plot_command (id ∷ k ∷ file ∷ base ∷ []) = plot_of (hash_word id) (size_word k) (output_words file base)
+plot_command (id ∷ k ∷ file ∷ base ∷ []) = make_plot_of (hash_word id) (size_word k) (output_words file base)
 plot_command words = None
 
 -- a plot file and a challenge, if both words are what they have to be
@@ -159,3 +159,16 @@ IsForChallenge c (Survey k number n file base) = Unit {0}
 -- the words ask something of this plot file, for this challenge
 abbrev pub AsksFor : List (String Global) → List ℕ → List ℕ → Type 0
 AsksFor words file c = (command : Command) × Asks words command × IsOnFile file command × IsForChallenge c command
+
+-- a command that judges a proof; the words ask for one
+abbrev pub IsVerify : Command → Type 0
+IsVerify (Verify id k challenge proof) = Unit {0}
+IsVerify (MakePlot id k file base) = ⊥
+IsVerify (Prove file challenge) = ⊥
+IsVerify (Quality file challenge) = ⊥
+IsVerify (Inspect file) = ⊥
+IsVerify (CheckPlot file n) = ⊥
+IsVerify (Survey k number n file base) = ⊥
+
+abbrev pub AsksToVerify : List (String Global) → Type 0
+AsksToVerify words = (command : Command) × Asks words command × IsVerify command

@@ -24,19 +24,19 @@ meant (CheckPlot test) = MeantCheck test.file.now test.challenges
 meant (Survey made) = MeantSurvey made.size made.number made.challenges made.names.file.now made.names.base.now
 
 -- the name of the file does not begin as those of the scratch files do
-abbrev pub AreApart : Names → Type 0
-AreApart names = IsFalse (begins_as_scratch names.base.now names.file.now)
+abbrev pub AreOutputNames : Names → Type 0
+AreOutputNames names = IsFalse (begins_as_scratch names.base.now names.file.now)
 
 -- a plot file can have this size, and the two names are apart
 pub record IsMakeable (making : Making) : Type 0 where
   pub greatest : making.size ≤ 32
-  pub apart : AreApart making.names
+  pub apart : AreOutputNames making.names
 
 -- and its challenges are not too many
 pub record IsSurveyable (made : Surveyed) : Type 0 where
   pub greatest : made.size ≤ 32
   pub few : made.challenges ≤ 1000000
-  pub apart : AreApart made.names
+  pub apart : AreOutputNames made.names
 
 -- its proof is an even number of digits, its size and its names are those of a plot, its challenges
 -- are not too many

@@ -5,7 +5,7 @@ ghost use Rattle.std.specs.Option.{option_map};
 ghost use Rattle.hex.specs.Hex.{is_hex_digit};
 ghost use Rattle.pos_app.specs.Words.{decimal_word, size_word, challenges_word, number_word, hash_word, bytes_word, file_word, begins_as_scratch, output_words};
 ghost use Rattle.pos_app.specs.Command.{command_of, verify_command, plot_command, question_words, inspect_command, check_command, survey_command};
-ghost use Rattle.pos_app.specs.Read.{Reads, AreApart, IsPlain};
+ghost use Rattle.pos_app.specs.Read.{Reads, AreOutputNames, IsPlain};
 
 use hex::FromHex;
 use pos_check::MOST_CHALLENGES;
@@ -150,7 +150,7 @@ fn read_plot(words: &[String]) -> Option<Command<'_>>
 // Reads the two words that name what a command makes.
 fn read_names<'a>(file: &'a str, base: &'a str) -> Option<Names<'a>>
     ensures read { option_map (λ names. (names.file.now, names.base.now)) result ≡ output_words file.now base.now }
-    ensures apart { IfSome result (λ names. AreApart names) }
+    ensures apart { IfSome result (λ names. AreOutputNames names) }
 {
     let Some(file) = read_file(file) else {
         return None;

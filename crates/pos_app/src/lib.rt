@@ -12,6 +12,3 @@ mod surveying;
 mod text;
 
 pub use program::run;
-
-#[cfg(test)]
-mod tests;

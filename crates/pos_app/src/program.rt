@@ -5,7 +5,7 @@ ghost use Rattle.pos_edge.specs.Faults.{Rose};
 ghost use Rattle.pos_edge.specs.Frame.{ChangesOnly, Nothing};
 ghost use Rattle.pos_verify.specs.Verdict.{IsAcceptance, IsProofBytes, IsRight};
 ghost use Rattle.pos_app.specs.Words.{bytes_word};
-ghost use Rattle.pos_app.specs.Command.{Verify, MakePlot, Prove, Quality, Inspect, CheckPlot, Survey, Asks, AsksFor, AsksOfFile, IsNoCommand, MakesNoFile, NeedsNoDisk, makes_files, needs_disk};
+ghost use Rattle.pos_app.specs.Command.{Verify, MakePlot, Prove, Quality, Inspect, CheckPlot, Survey, Asks, AsksFor, AsksOfFile, AsksToVerify, IsNoCommand, MakesNoFile, NeedsNoDisk, makes_files, needs_disk};
 ghost use Rattle.pos_app.specs.Statuses.{done_status, refused_status, usage_status, disk_fault_status, damage_status, sink_fault_status, memory_status};
 ghost use Rattle.pos_app.specs.Texts.{usage_line};
 ghost use Rattle.pos_app.specs.Answers.{Speaks, TellsFaults};
@@ -41,6 +41,10 @@ pub fn run<D: Disk, S: Sink>(alloc: Global, words: &[String], disk: &mut D, out:
     // Words that are no command take no memory.
     ensures usage { IsNoCommand words.now
         → Speaks usage_status usage_line result (S.heard out.old) (S.heard out.new) }
+
+    // The usage line's status comes from them alone, and that of a refused proof from `verify` alone.
+    ensures usage_only { result ≡ usage_status → IsNoCommand words.now }
+    ensures refused_only { result ≡ refused_status → AsksToVerify words.now }
 
     // `verify ID K CHALLENGE PROOF`.
     ensures verify { (id challenge proof : List ℕ) (k : ℕ) → Asks words.now (Verify id k challenge proof)

@@ -7,6 +7,7 @@ use Rattle.pos_app.specs.Read.{meant}
 use Rattle.pos_app.proofs.AnswerLemmas.{says_answer-same, tells_answer-same}
 use Rattle.pos_app.proofs.ListLemmas.{any_file, names_damage, no_false_proof, reads_for_proofs, reads_for_qualities}
 use Rattle.pos_app.proofs.CheckLemmas.{names_check_damage, reads_for_check, says_of_whole_check, says_the_summary}
+use Rattle.pos_app.proofs.StatusLemmas.{never_usage, only_verify_refuses, usage_is_no_refusal}
 use Rattle.pos_app.proofs.SurveyingLemmas.{is_survey_status, survey_ends_safely, tells_survey}
 use Rattle.pos_app.proofs.PlottingLemmas.{tells_plotting, is_plot_status, ends_safely}
 use Rattle.pos_app.proofs.PlotLemmas.{says_of_whole_proofs, says_of_whole_qualities, says_the_proofs, says_the_qualities}
@@ -23,6 +24,13 @@ says : (g : Over) (c : After-obey g) (m : Command) → command_of (map string_by
 says g c m e =
     says_answer-same (meant c.in-Some.command) m (command_of (map string_bytes c.args.words.now)) (g.D.Disk.view c.args.disk.now) (g.D.Disk.view c.obey.new.disk)
     c.obey.result (g.S.Sink.heard c.args.out.now) (g.S.Sink.heard c.obey.new.out) (obeyed g c) e c.obey.ensures.answer
+
+pub returns-in-Some-clause-usage_only : goal.returns-in-Some-clause-usage_only
+returns-in-Some-clause-usage_only g c is = absurd (never_usage (meant c.in-Some.command) _ _ c.obey.result _ _ c.obey.ensures.answer is)
+
+pub returns-in-Some-clause-refused_only : goal.returns-in-Some-clause-refused_only
+returns-in-Some-clause-refused_only g c is =
+    (meant c.in-Some.command, obeyed g c, only_verify_refuses (meant c.in-Some.command) _ _ c.obey.result _ _ c.obey.ensures.answer is)
 
 pub returns-in-Some-clause-verify : goal.returns-in-Some-clause-verify
 returns-in-Some-clause-verify g c id challenge proof k e = says g c (Verify id k challenge proof) e

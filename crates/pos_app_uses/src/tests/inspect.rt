@@ -1,7 +1,7 @@
 //! `inspect` of two small files, of files that are damaged, and of none.
 
-use crate::run;
-use pos_edge::{MemoryDisk, MemorySink};
+use crate::tests::answer_on;
+use pos_edge::MemoryDisk;
 use std::alloc::Global;
 use std::test::Fail;
 
@@ -66,15 +66,9 @@ pub fn answer_over(
     bytes: &[u8],
     failing: &[u64],
 ) -> Result<(u8, Vec<u8>), Fail> {
-    let mut owned = Vec::new(alloc);
-    for word in words {
-        owned.push(String::from_str(alloc, word)?)?;
-    }
     let mut disk = MemoryDisk::new(alloc, failing.to_vec(alloc)?);
     disk.add("toy", bytes)?;
-    let mut sink = MemorySink::new(alloc, Vec::new(alloc), 4096)?;
-    let status = run(alloc, owned.as_slice(), &mut disk, &mut sink);
-    Ok((status, sink.text().to_vec(alloc)?))
+    answer_on(alloc, words, &[], &mut disk)
 }
 
 #[test]

@@ -5,8 +5,8 @@ mod plotting;
 mod search;
 mod surveys;
 
-use crate::run;
-use pos_edge::{MemoryDisk, MemorySink};
+use pos_app::run;
+use pos_edge::{Disk, MemoryDisk, MemorySink};
 use pos_tuple::Id;
 use std::alloc::Global;
 use std::test::Fail;
@@ -25,21 +25,27 @@ const PROOF: &str =
 const EXCHANGED: &str =
     "eab97ec39e9ee3be7b5888a2af037cd79a84890bab669199c2904edb16cf976a084b398e912297ce15fb82f89a24fbc0c889aba8b2380f9bd6d06651bbf4114733e6a26aef371424e269758ffbbb91e140c6ace20dc8dc4ba3bf2896879bd50d";
 
-// The status and the text of a run with these words, over a disk with no files and a sink that fails at its first put
-// where it is said.
-fn answer(alloc: Global, words: &[&str], fails: bool) -> Result<(u8, Vec<u8>), Fail> {
+// The status and the text of a run with these words over a disk, with a sink that fails at the puts of these numbers.
+pub fn answer_on<D: Disk>(
+    alloc: Global,
+    words: &[&str],
+    failing: &[u64],
+    disk: &mut D,
+) -> Result<(u8, Vec<u8>), Fail> {
     let mut owned = Vec::new(alloc);
     for word in words {
         owned.push(String::from_str(alloc, word)?)?;
     }
-    let mut failing = Vec::new(alloc);
-    if fails {
-        failing.push(0)?;
-    }
-    let mut disk = MemoryDisk::new(alloc, Vec::new(alloc));
-    let mut sink = MemorySink::new(alloc, failing, 4096)?;
-    let status = run(alloc, owned.as_slice(), &mut disk, &mut sink);
+    let mut sink = MemorySink::new(alloc, failing.to_vec(alloc)?, 4096)?;
+    let status = run(alloc, owned.as_slice(), disk, &mut sink);
     Ok((status, sink.text().to_vec(alloc)?))
+}
+
+// The same over a disk with no files; the sink fails at its first put where it is said.
+fn answer(alloc: Global, words: &[&str], fails: bool) -> Result<(u8, Vec<u8>), Fail> {
+    let mut disk = MemoryDisk::new(alloc, Vec::new(alloc));
+    let failing: &[u64] = if fails { &[0] } else { &[] };
+    answer_on(alloc, words, failing, &mut disk)
 }
 
 fn repeated(alloc: Global, digit: &str, times: u32) -> Result<String, Fail> {
