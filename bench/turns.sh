@@ -11,13 +11,13 @@ took() {
     echo "$side $k $spent $(tail -1 memory.txt)" >> runs.txt
 }
 
-# Of each size the least time of both sides, and the ratio.
+# Of each size and each side but the proved one the least time of both, and the ratio.
 ratios() {
     awk '{ side = $1 " " $2; time = $3 + $4
            if (!(side in least) || time < least[side]) { least[side] = time; user[side] = $3; memory[side] = $5 }
-           if (!seen[$2]++) order[++count] = $2 }
-         END { print "size: seconds of plain Rust (user alone, MB), of the proved program (the same), ratio"
-               for (i = 1; i <= count; i++) { a = "plain " order[i]; b = "proved " order[i]
-                   printf "%s: %.3f (%.3f, %.0f) %.3f (%.3f, %.0f) %.2f\n", order[i],
+           if (!seen[side]++) order[++count] = side }
+         END { print "side and size: its seconds (user alone, MB), those of the proved program (the same), ratio"
+               for (i = 1; i <= count; i++) { a = order[i]; split(a, part, " "); b = "proved " part[2]
+                   if (a != b) printf "%s: %.3f (%.3f, %.0f) %.3f (%.3f, %.0f) %.2f\n", a,
                        least[a], user[a], memory[a] / 1024, least[b], user[b], memory[b] / 1024, least[b] / least[a] } }' runs.txt
 }

@@ -1,26 +1,41 @@
-// The seven tables of an id in plain Rust, all in memory, with the processor's time of each stage: bench/forward/run.sh builds it.
+// The seven tables of an id in plain Rust, all in memory or on lists on pages, with the processor's time of each stage:
+// bench/forward/run.sh builds it.
 #![feature(portable_simd)]
 
+mod on_pages;
+#[path = "../pages.rs"]
+mod pages;
 #[path = "../plot/tables.rs"]
 mod tables;
 
-use tables::{Stages, Tables, tables_of};
+use on_pages::tables_on_pages;
+use tables::{Stages, tables_of};
 
-fn made<const K: u32>(stages: &mut Stages) -> Tables {
-    tables_of::<K>(&[0x5a; 32], stages)
+// How many entries each table has.
+fn counts<const K: u32>(on_pages: bool, stages: &mut Stages) -> Vec<u64> {
+    let id = [0x5a; 32];
+    if on_pages {
+        return tables_on_pages::<K>(&id, stages);
+    }
+    let tables = tables_of::<K>(&id, stages);
+    // Nothing of the last table is left out by the compiler.
+    std::hint::black_box(&tables.last);
+    let mut counts = vec![tables.values.len() as u64];
+    counts.extend(tables.pairs.iter().map(|pairs| pairs.len() as u64));
+    counts
 }
 
 fn main() {
-    let k = std::env::args().nth(1).unwrap();
+    let words: Vec<String> = std::env::args().collect();
+    let on_pages = words[2] == "pages";
     let mut stages = Stages::new();
-    let tables = match k.as_str() {
-        "16" => made::<16>(&mut stages),
-        "18" => made::<18>(&mut stages),
-        "20" => made::<20>(&mut stages),
-        _ => made::<22>(&mut stages),
+    let counts = match words[1].as_str() {
+        "16" => counts::<16>(on_pages, &mut stages),
+        "18" => counts::<18>(on_pages, &mut stages),
+        "20" => counts::<20>(on_pages, &mut stages),
+        _ => counts::<22>(on_pages, &mut stages),
     };
     stages.show();
-    let counts: Vec<String> = tables.pairs.iter().map(|pairs| pairs.len().to_string()).collect();
-    println!("entries {} {}", tables.values.len(), counts.join(" "));
-    println!("sum {}", tables.last.iter().fold(0u64, |sum, y| sum.wrapping_mul(31).wrapping_add(*y)));
+    let counts: Vec<String> = counts.iter().map(|count| count.to_string()).collect();
+    println!("entries {}", counts.join(" "));
 }

@@ -1,7 +1,7 @@
 #!/usr/bin/env bash
-# Times the seven tables of an id at sizes 16, 18 and 20: `forward` over real files, against plain Rust of the same steps that
-# holds all in memory, by turns. What is taken is the time that the processor spent on a run, of the program and of the system
-# for it: the least of some runs. The plain side also says what each stage took, in its last run.
+# Times the seven tables of an id at sizes 16, 18 and 20: `forward` over real files, against plain Rust of the same steps on lists
+# on pages, and against plain Rust that holds all in memory, by turns. What is taken is the time that the processor spent on a run,
+# of the program and of the system for it: the least of some runs. The plain sides also say what each stage took, in their last run.
 set -eu
 here="$(cd "$(dirname "$0")" && pwd)"
 top="$(cd "$here/../.." && pwd)"
@@ -21,15 +21,19 @@ cd "$work"
 . "$top/bench/turns.sh"
 for k in 16 18 20; do
     for _ in $(seq "$turns"); do
-        took plain "$k" ./plain "$k"
-        rm -f bench.*
+        took memory "$k" ./plain "$k" memory
+        took plain "$k" ./plain "$k" pages
+        rm -f bench.* plain.*
         took proved "$k" "$crate/out/bench_forward" "$k"
     done
-    # Both have as many entries in tables 1 and 7.
+    # All have as many entries in tables 1 and 7.
     cmp <(awk '/^entries/ { print $2, $NF }' "out.plain.$k") <(awk '/^entries/ { print $(NF - 1), $NF }' "out.proved.$k")
+    cmp <(grep '^entries' "out.memory.$k") <(grep '^entries' "out.plain.$k")
 done
 ratios
 for k in 16 18 20; do
-    echo "stages of plain Rust at size $k, in the last run:"
-    grep ' us$' "out.plain.$k"
+    for side in plain memory; do
+        echo "stages of $side at size $k, in the last run:"
+        grep ' us$' "out.$side.$k"
+    done
 done

@@ -1,69 +1,14 @@
 // Plain Rust that packs the same bits through one page buffer, and reads them in order: bench/lists/run.sh builds it.
-use std::fs::File;
-use std::os::unix::fs::FileExt;
+#[path = "../pages.rs"]
+mod pages;
+
+use pages::{PAGE, Pages, number_at, page_buffer};
 use std::time::Instant;
 
 const COUNT: u64 = 10_000_000;
-const PAGE: usize = 65_536;
 
 fn next(x: u64) -> u64 {
     x.wrapping_mul(6364136223846793005).wrapping_add(1442695040888963407)
-}
-
-struct Pages {
-    file: File,
-    page: Vec<u8>,
-    written: u64,
-    rest: u64,
-    fill: u32,
-}
-
-impl Pages {
-    fn new(name: &str) -> Pages {
-        let file = File::options().read(true).write(true).create(true).truncate(true).open(name).unwrap();
-        Pages { file, page: Vec::with_capacity(PAGE), written: 0, rest: 0, fill: 0 }
-    }
-
-    #[inline(always)]
-    fn put(&mut self, value: u64, width: u32) {
-        let room = 64 - self.fill;
-        if width < room {
-            self.rest = (self.rest << width) | value;
-            self.fill += width;
-        } else {
-            let left = width - room;
-            let word = if room < 64 { (self.rest << room) | (value >> left) } else { value >> left };
-            self.page.extend_from_slice(&word.to_be_bytes());
-            self.rest = value & ((1 << left) - 1);
-            self.fill = left;
-        }
-    }
-
-    fn end_page(&mut self) {
-        if self.fill > 0 {
-            let word = self.rest << (64 - self.fill);
-            self.page.extend_from_slice(&word.to_be_bytes());
-        }
-        self.page.resize(PAGE, 0);
-        self.file.write_all_at(&self.page, self.written * PAGE as u64).unwrap();
-        self.written += 1;
-        self.page.clear();
-        self.rest = 0;
-        self.fill = 0;
-    }
-}
-
-#[inline(always)]
-fn number_at(page: &[u8], at: usize, width: u32) -> u64 {
-    let byte = at / 8;
-    let window = if byte + 8 <= page.len() {
-        u64::from_be_bytes(page[byte..byte + 8].try_into().unwrap())
-    } else {
-        let mut eight = [0; 8];
-        eight[..page.len() - byte].copy_from_slice(&page[byte..]);
-        u64::from_be_bytes(eight)
-    };
-    (window << (at % 8)) >> (64 - width)
 }
 
 fn tell(name: &str, start: Instant, sum: u64) {
@@ -86,11 +31,11 @@ fn main() {
     pages.end_page();
     tell("push_42", start, x);
     let start = Instant::now();
-    let mut page = vec![0; PAGE];
+    let mut page = page_buffer();
     let mut sum = 0u64;
     for i in 0..COUNT {
         if i % records == 0 {
-            pages.file.read_exact_at(&mut page, i / records * PAGE as u64).unwrap();
+            pages.read_page(i / records, &mut page);
         }
         let at = (i % records) as usize * 42;
         sum = sum.wrapping_add(number_at(&page, at, 21) ^ number_at(&page, at + 21, 21));
@@ -120,7 +65,7 @@ fn main() {
     let mut sum = 0u64;
     for i in 0..COUNT {
         if i % records == 0 {
-            pages.file.read_exact_at(&mut page, i / records * PAGE as u64).unwrap();
+            pages.read_page(i / records, &mut page);
         }
         let at = (i % records) as usize * 232;
         let meta = (number_at(&page, at + 38, 56) as u128) << 72 | (number_at(&page, at + 94, 56) as u128) << 16 | number_at(&page, at + 150, 16) as u128;

@@ -5,7 +5,7 @@ use std::simd::u32x4;
 
 const B: usize = 119;
 const C: usize = 127;
-const BUCKET: u64 = (B * C) as u64;
+pub const BUCKET: u64 = (B * C) as u64;
 const TARGETS: usize = 64;
 
 // The processor's time of this process, of the program and of the system for it, shared out to stages.
@@ -55,15 +55,15 @@ impl Stages {
 }
 
 // A number in 128 bits, as two words, so that a row has 32 bytes.
-#[derive(Clone, Copy)]
+#[derive(Clone, Copy, Default)]
 pub struct Metadata {
-    high: u64,
-    low: u64,
+    pub high: u64,
+    pub low: u64,
 }
 
 impl Metadata {
     #[inline(always)]
-    fn of(number: u128) -> Metadata {
+    pub fn of(number: u128) -> Metadata {
         Metadata { high: (number >> 64) as u64, low: number as u64 }
     }
 
@@ -73,12 +73,12 @@ impl Metadata {
     }
 }
 
-#[derive(Clone, Copy)]
+#[derive(Clone, Copy, Default)]
 pub struct Row {
-    y: u64,
-    meta: Metadata,
-    left: u32,
-    right: u32,
+    pub y: u64,
+    pub meta: Metadata,
+    pub left: u32,
+    pub right: u32,
 }
 
 // The tables: the values of table 1 by place, the pairs of tables 2 to 7, and the y of table 7.
@@ -138,7 +138,7 @@ fn four_blocks(key: &[u32; 8], block: u32, out: &mut [u32; 64]) {
 }
 
 // y and value of each entry of table 1, by value.
-fn first_rows<const K: u32>(id: &[u8; 32]) -> Vec<(u64, u64)> {
+pub fn first_rows<const K: u32>(id: &[u8; 32]) -> Vec<(u64, u64)> {
     let mut seed = [1u8; 32];
     seed[1..].copy_from_slice(&id[..31]);
     let mut key = [0u32; 8];
@@ -169,7 +169,7 @@ fn first_rows<const K: u32>(id: &[u8; 32]) -> Vec<(u64, u64)> {
 
 // Matching.
 
-struct Targets {
+pub struct Targets {
     highs: Vec<u16>,
     lows: Vec<u16>,
     marks: Vec<u8>,
@@ -177,7 +177,7 @@ struct Targets {
 }
 
 impl Targets {
-    fn new() -> Targets {
+    pub fn new() -> Targets {
         let highs = (0..B + TARGETS - 1).map(|i| (i % B * C) as u16).collect();
         let lows = (0..2 * C * TARGETS).map(|i| {
             let (line, m) = (i / TARGETS, i % TARGETS);
@@ -193,7 +193,7 @@ impl Targets {
     }
 
     // The matching pairs of two neighbouring buckets, whose first places are these.
-    fn list(&mut self, left: &[Row], right: &[Row], first: (u32, u32), pairs: &mut Vec<(u32, u32)>) {
+    pub fn list(&mut self, left: &[Row], right: &[Row], first: (u32, u32), pairs: &mut Vec<(u32, u32)>) {
         let base = right[0].y / BUCKET * BUCKET;
         for (i, row) in right.iter().enumerate() {
             let place = (row.y - base) as usize;
@@ -330,7 +330,7 @@ fn hash4(texts: &[[u64; 8]; 4], bytes: u32) -> [[u64; 3]; 4] {
 
 // fx.
 
-fn units_of(t: u32) -> u32 {
+pub fn units_of(t: u32) -> u32 {
     [0, 1, 2, 4, 4, 3, 2, 0][t as usize]
 }
 
@@ -362,21 +362,25 @@ fn row_of<const K: u32>(t: u32, left: &Row, right: &Row, pair: (u32, u32), hash:
     Row { y: hash[0] >> (64 - (K + 6)), meta: Metadata::of(meta), left: pair.0, right: pair.1 }
 }
 
+// Four rows of table t, each of a left and a right row of the table below that stand at the places of a pair.
 #[inline(always)]
-fn four_rows<const K: u32>(t: u32, rows: &[Row], pairs: &[(u32, u32); 4]) -> [Row; 4] {
+pub fn four_rows<const K: u32>(t: u32, left: [&Row; 4], right: [&Row; 4], pairs: &[(u32, u32); 4]) -> [Row; 4] {
     let width = K * units_of(t - 1);
     let mut texts = [[0u64; 8]; 4];
-    for (text, pair) in texts.iter_mut().zip(pairs) {
-        let (left, right) = (&rows[pair.0 as usize], &rows[pair.1 as usize]);
-        put(text, 0, left.y as u128, K + 6);
-        put(text, K + 6, left.meta.number(), width);
-        put(text, K + 6 + width, right.meta.number(), width);
+    for (i, text) in texts.iter_mut().enumerate() {
+        put(text, 0, left[i].y as u128, K + 6);
+        put(text, K + 6, left[i].meta.number(), width);
+        put(text, K + 6 + width, right[i].meta.number(), width);
     }
     let hashes = hash4(&texts, (K + 6 + 2 * width).div_ceil(8));
-    std::array::from_fn(|i| {
-        let pair = pairs[i];
-        row_of::<K>(t, &rows[pair.0 as usize], &rows[pair.1 as usize], pair, &hashes[i])
-    })
+    std::array::from_fn(|i| row_of::<K>(t, left[i], right[i], pairs[i], &hashes[i]))
+}
+
+#[inline(always)]
+fn four_of<const K: u32>(t: u32, rows: &[Row], pairs: &[(u32, u32); 4]) -> [Row; 4] {
+    let left = pairs.map(|pair| &rows[pair.0 as usize]);
+    let right = pairs.map(|pair| &rows[pair.1 as usize]);
+    four_rows::<K>(t, left, right, pairs)
 }
 
 #[inline(never)]
@@ -384,12 +388,12 @@ fn make_rows<const K: u32>(t: u32, rows: &[Row], pairs: &[(u32, u32)], made: &mu
     made.clear();
     let (fours, rest) = pairs.as_chunks::<4>();
     for four in fours {
-        made.extend_from_slice(&four_rows::<K>(t, rows, four));
+        made.extend_from_slice(&four_of::<K>(t, rows, four));
     }
     if let Some(last) = rest.last() {
         let mut four = [*last; 4];
         four[..rest.len()].copy_from_slice(rest);
-        made.extend_from_slice(&four_rows::<K>(t, rows, &four)[..rest.len()]);
+        made.extend_from_slice(&four_of::<K>(t, rows, &four)[..rest.len()]);
     }
 }
 
