@@ -1,21 +1,26 @@
-use Rattle.std.proofs.Common.{◌-◌, ◌%◌, arith, rules}
-use Rattle.pos_bits.proofs.PiecesLemmas.{joined-fits, number-more, number-more_lt}
+use Rattle.std.proofs.Common.{◌≡◌, ◌+◌, ◌-◌, ◌/◌, ◌^◌, ◌<◌, ◌∙◌, length, slice_index_or, ap, sym, subst, arith}
+use Rattle.std.proofs.lemmas.Nat.{shr_below}
+use Rattle.pos_bits.specs.Bits.{number}
+use Rattle.pos_bits.proofs.BitsLemmas.{number-bits}
+use Rattle.pos_bits.proofs.HeldLemmas.{held-eight, held-len}
+use Rattle.pos_bits.proofs.TwoLemmas.{held-two}
 use Rattle.pos_bits.proofs.string.BitString.word.Goals as goal
+use Rattle.pos_bits.proofs.string.BitString.word.Goals.{then-word-lt7, else-word-lt7}
 
-pub overflow_add-result : goal.overflow_add-result
-overflow_add-result c =
-    let f = joined-fits 64 c.number_within_word-else-width-room.result (64 - c.args.start % 64) (c.args.width - (64 - c.args.start % 64)) c.number_within_word-else-width-room-2.result
-    c.number_within_word-else-width-room.ensures.below c.number_within_word-else-width-room-2.ensures.below (omega arith) in
-    search rules
+pub returns-clause-below : goal.returns-clause-below
+returns-clause-below c =
+    let size : 64 ≡ c.args.width + (64 - c.args.width) = omega arith in
+    shr_below c.two_words.result c.args.width (64 - c.args.width) (subst (λ k. c.two_words.result < 2 ^ k) size (omega arith))
 
-pub returns-else-width-room-clause-value : goal.returns-else-width-room-clause-value
-returns-else-width-room-clause-value c =
-    number-more 64 c.args.self.now c.args.start (64 - c.args.start % 64) (c.args.width - (64 - c.args.start % 64))
-    c.number_within_word-else-width-room.result c.number_within_word-else-width-room-2.result c.args.width (omega arith) (omega arith) (omega arith)
-    c.number_within_word-else-width-room.ensures.below c.number_within_word-else-width-room.ensures.value c.number_within_word-else-width-room-2.ensures.value
-
-pub returns-else-width-room-clause-below : goal.returns-else-width-room-clause-below
-returns-else-width-room-clause-below c =
-    number-more_lt 64 c.number_within_word-else-width-room.result (64 - c.args.start % 64) (c.args.width - (64 - c.args.start % 64))
-    c.number_within_word-else-width-room-2.result c.args.width (omega arith) (omega arith)
-    c.number_within_word-else-width-room.ensures.below c.number_within_word-else-width-room-2.ensures.below
+pub returns-clause-value : goal.returns-clause-value
+returns-clause-value c =
+    let l : length c.args.self.now ≡ c.self.inside.len = held-len c.self.inside.words c.self.inside.len c.args.self.now c.self.invariant c.self.view_is in
+    let eight : length c.self.inside.words ≡ 8 = held-eight c.self.inside.words c.self.inside.len c.args.self.now c.self.invariant c.self.view_is in
+    let next_is : c.args.start / 64 < 7 → c.if-word-lt7.next ≡ slice_index_or c.self.inside.words (c.args.start / 64 + 1) 0 =
+    λ more. elim c.if-word-lt7.branch [
+      | then-word-lt7 w ↦ w.next-is
+      | else-word-lt7 w ↦ absurd (omega arith)
+    ] in
+    sym (number-bits _ c.args.width (returns-clause-below c))
+    ∙ ap number (sym (held-two c.self.inside.words c.self.inside.len c.args.self.now eight c.self.invariant.at_most c.self.view_is c.args.start c.args.width c.two_words.result
+    c.if-word-lt7.next (omega arith) (omega arith) c.requires.not_none c.two_words.ensures next_is))
