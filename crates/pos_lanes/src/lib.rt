@@ -4,7 +4,7 @@
 //! can promise that it took the fast way. Source of the rule: the Proof of Space Construction document, version 1.1, "f2 to f7".
 #![tactic(auto)]
 
-ghost use Rattle.std.specs.Prelude.{◌≡◌, ◌+◌, ◌-◌, ◌*◌, ◌^◌, ◌≤◌, ◌<◌, ◌++◌, ℕ, [], All, Some, drop, length, slice_get, slice_index_or, take};
+ghost use Rattle.std.specs.Prelude.{◌≡◌, ◌+◌, ◌-◌, ◌*◌, ◌^◌, ◌≤◌, ◌<◌, ℕ, [], All, Some, length, slice_get, slice_index_or};
 ghost use Rattle.std.specs.Simd.Lanes.{zip2};
 ghost use Rattle.pos_bits.specs.Bits.{bytes};
 ghost use Rattle.pos_blake3.specs.Blake3.{blake3_block};
@@ -22,9 +22,6 @@ mod tests;
 
 // So many entries are made at once.
 const EIGHT: usize = 8;
-
-// So many bits of a hash are moved at once.
-const PIECE: u32 = 64;
 
 /// How many times eight entries were made at once. Contracts see the number, which stays at the greatest of 64 bits.
 #[derive(Drop)]
@@ -269,27 +266,8 @@ fn set_metadata(
         meta.join(&right.meta);
         return;
     }
-    *meta = BitString::empty();
     let whole = BitString::from_bytes(hash);
-    push_part(meta, &whole, size.k() + 6, size.k() * units_of(t));
-}
-
-// Appends the `width` bits of a string from place `at` on to an empty string.
-#[inline(always)]
-fn push_part(string: &mut BitString, whole: &BitString, at: u32, width: u32)
-    requires empty { string.old ≡ [] }
-    requires start { at ≤ 56 }
-    requires short { width ≤ 256 }
-    requires there { at + width ≤ length whole.now }
-    ensures value { string.new ≡ take width (drop at whole.now) }
-    ensures len { length string.new ≡ width }
-{
-    let mut done = 0;
-    while done < width {
-        let count = (width - done).min(PIECE);
-        string.push(whole.number(at + done, count), count);
-        done += count;
-    }
+    meta.set_part(&whole, size.k() + 6, size.k() * units_of(t));
 }
 
 // How many times k bits of metadata an entry of a table has, from table 4 on.

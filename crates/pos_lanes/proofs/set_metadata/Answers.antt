@@ -14,5 +14,5 @@ returns-clause-value c =
     let rest : drop (c.k.result + 6) c.from_bytes-whole.result ≡ drop (c.args.size + 6) (bits_of c.args.hash.now) =
     ap₂ (λ n s. drop (n + 6) s) c.k.ensures.value c.from_bytes-whole.ensures.value
     in
-    c.push_part.ensures.value ∙ ap₂ take width rest
+    c.set_part.ensures.value ∙ ap₂ take width rest
     ∙ read_metadata c.args.size c.args.t c.args.left.now c.args.right.now c.args.hash.now (omega arith) (omega arith) c.requires.hash
