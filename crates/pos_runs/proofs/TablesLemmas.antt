@@ -1,5 +1,5 @@
 -- The tables of a run: what they stand for while other files change, and after one of their lists was read.
-use Rattle.std.proofs.Common.{◌≡◌, ℕ, suc, ◌≤◌, List, length, map, Option, Some, None, refl, sym, ap, ◌∙◌, subst, inl, inr, arith}
+use Rattle.std.proofs.Common.{◌≡◌, ℕ, zero, suc, ◌<◌, ◌≤◌, true, List, length, map, Option, Some, None, refl, sym, ap, ◌∙◌, subst, inl, inr, arith}
 use Rattle.std.specs.Prelude.{slice_get, slice_set}
 use Rattle.std.proofs.Common.{get_or-set_same, get_or-set_other}
 use Rattle.std.proofs.Math.ListN.{length-set}
@@ -14,7 +14,7 @@ use Rattle.pos_record.specs.Kinds.{value_read, pair_read, pair_width, number_rea
 use Rattle.pos_record.specs.declared.kinds.Value.{Value}
 use Rattle.pos_record.specs.declared.kinds.Pair.{Pair}
 use Rattle.pos_record.specs.declared.kinds.Number.{Number}
-use Rattle.pos_runs.specs.Pages.{ListPages, ListStands, ListHolds}
+use Rattle.pos_runs.specs.Pages.{ListPages, ListStands, ListHolds, PageHolds}
 use Rattle.pos_runs.specs.Lists.{IsListRead}
 use Rattle.pos_runs.specs.Runs.{TablesState, no_pages, pages_at, level_width, value_record, pair_record, number_record, StandsSealed, TablesStand, IsTablesFile}
 use Rattle.pos_runs.proofs.ListLemmas.{outside-holds, outside-stands, read-holds, read-stands}
@@ -108,6 +108,23 @@ pair-got xs i r is = unrecorded pair_record (λ p. (p.left, p.right)) (λ x. ref
 
 pub number-got : (xs : List ℕ) (i : ℕ) (r : Number) → slice_get (map number_record xs) i ≡ Some r → slice_get xs i ≡ Some r.number
 number-got xs i r is = unrecorded number_record (λ n. n.number) (λ x. refl) (slice_get xs i) r (sym (slice_get-map number_record xs i) ∙ is)
+
+-- the pairs of a level above the first
+pub pairs-level : (k : ℕ) (t : TablesState) (ts : TableLists) (m : ℕ) (view : View) → 1 ≤ m → m ≤ 6 → TablesStand k t ts view
+    → ListHolds (pair_read k) (pair_width k) (pages_at t m) (map pair_record (pairs_of ts m)) view
+pairs-level k t ts zero view above below h = absurd (omega arith)
+pairs-level k t ts (suc n) view above below h = h.pairs n (omega arith)
+
+-- a pair that was read from the page in memory
+pub pair-here : (k : ℕ) (t : TablesState) (ts : TableLists) (m i page : ℕ) (found : Pair) (view : View) → 1 ≤ m → m ≤ 6 → i < (pages_at t m).count → (pages_at t m).page ≡ page → view.tells ≡ true → TablesStand k t ts view
+    → ((xs : List Pair) → PageHolds (pair_read k) (pair_width k) page xs (pages_at t m).bytes → i < length xs → slice_get xs i ≡ Some found)
+    → slice_get (pairs_of ts m) i ≡ Some (found.left, found.right)
+pair-here k t ts m i page found view above below there is tells h value =
+    let holds : ListHolds (pair_read k) (pair_width k) (pages_at t m) (map pair_record (pairs_of ts m)) view = pairs-level k t ts m view above below h in
+    let memory : PageHolds (pair_read k) (pair_width k) page (map pair_record (pairs_of ts m)) (pages_at t m).bytes =
+    subst (λ p. PageHolds (pair_read k) (pair_width k) p (map pair_record (pairs_of ts m)) (pages_at t m).bytes) is (holds.memory tells) in
+    let count : length (map pair_record (pairs_of ts m)) ≡ (pages_at t m).count = holds.count in
+    pair-got (pairs_of ts m) i found (value (map pair_record (pairs_of ts m)) memory (omega arith))
 
 -- ---- tables after one call
 

@@ -8,7 +8,7 @@ ghost use Rattle.pos_edge.specs.ScratchNames.{next_name, with_file, without_file
 ghost use Rattle.pos_edge.specs.ScratchWork.{IsNameBetween, IsScratchWork, IsScratchDone};
 ghost use Rattle.pos_bits.specs.Bits.{bits_of};
 ghost use Rattle.pos_record.specs.Fields.{IsRecordSize, part_at};
-ghost use Rattle.pos_runs.specs.Pages.{per_page, ListStands, ListHolds};
+ghost use Rattle.pos_runs.specs.Pages.{per_page, ListStands, ListHolds, PageHolds};
 ghost use Rattle.pos_runs.specs.Lists.{IsListWrite, IsListRead, reads_after, reads_for, flushed, with_page, HasRoom, HasOneMore, IsSealedFrom, IsNewList, IsPageFault};
 
 use crate::pages::{PAGE_BITS, PAGE_BYTES, read_page, write_page};
@@ -186,11 +186,52 @@ impl<R: Record<K>, const K: u32> Ordered<R, K> {
         ensures quiet { OnOk result (SameFaults (D.view disk.old) (D.view disk.new)) }
         ensures fault { IfErr result (λ fault. fault ≡ WorkFault.DiskFailed) }
     {
-        let width = R::width();
-        let records = (PAGE_BITS / width) as u64;
-        let page = i / records;
+        self.reach(disk, i)?;
+        Ok(self.here(i))
+    }
+
+    // Brings the page of record i into memory where it is not there.
+    #[inline(always)]
+    pub(crate) fn reach<D: Disk>(&mut self, disk: &mut D, i: u64) -> Result<(), WorkFault>
+        requires size { IsRecordSize K }
+        requires stands { ListStands R.bit_count self.old (D.view disk.old) }
+        requires sealed { self.old.is_sealed ≡ true }
+        requires there { i < self.old.count }
+        ensures read { IsListRead self.old self.new (D.view disk.old) (D.view disk.new) }
+        ensures reads { (D.view disk.new).reads ≡ reads_after R.bit_count i self.old (D.view disk.old) }
+        ensures page { OnOk result (self.new.page ≡ i / per_page R.bit_count) }
+        ensures stands { OnOk result (ListStands R.bit_count self.new (D.view disk.new)) }
+        ensures list { OnOk result ((xs : _) → ListHolds R.read R.bit_count self.old xs (D.view disk.old)
+            → ListHolds R.read R.bit_count self.new xs (D.view disk.new)) }
+        ensures failed { OnErr result (Rose (D.view disk.old).faults (D.view disk.new).faults) }
+        ensures quiet { OnOk result (SameFaults (D.view disk.old) (D.view disk.new)) }
+        ensures fault { IfErr result (λ fault. fault ≡ WorkFault.DiskFailed) }
+    {
+        let page = i / records_on_page::<R, K>();
         self.ready(disk, page)?;
-        Ok(record_at::<R, K>(self.bytes.as_slice(), (i % records) * width as u64))
+        Ok(())
+    }
+
+    // Whether the page of record i is in memory.
+    #[inline(always)]
+    pub(crate) fn is_here(&self, i: u64) -> bool
+        requires size { IsRecordSize K }
+        ensures { IsTrue result ↔ (self.now.page ≡ i / per_page R.bit_count) }
+    {
+        self.page == i / records_on_page::<R, K>()
+    }
+
+    // Record i, whose page is in memory.
+    #[inline(always)]
+    pub(crate) fn here(&self, i: u64) -> R
+        requires size { IsRecordSize K }
+        requires long { length self.now.bytes ≡ 65536 }
+        ensures value { (xs : _) → PageHolds R.read R.bit_count (i / per_page R.bit_count) xs self.now.bytes
+            → i < length xs → slice_get xs i ≡ Some result }
+        ensures fits { R.fits result }
+    {
+        let place = i % records_on_page::<R, K>();
+        record_at::<R, K>(self.bytes.as_slice(), place * R::width() as u64)
     }
 
     /// Removes the list's file, also after a refusal of another call. Takes no memory.
@@ -287,6 +328,7 @@ impl<R: Record<K>, const K: u32> Ordered<R, K> {
     }
 
     // Reads a page into memory.
+    #[cold]
     fn bring<D: Disk>(&mut self, disk: &mut D, page: u64) -> Result<(), WorkFault>
         requires live { IsTrue ((D.view disk.old).is_live self.old.file) }
         requires there { IsThere self.old.file (D.view disk.old) }
@@ -306,6 +348,15 @@ impl<R: Record<K>, const K: u32> Ordered<R, K> {
         self.page = page;
         Ok(())
     }
+}
+
+// How many records a page has.
+#[inline(always)]
+fn records_on_page<R: Record<K>, const K: u32>() -> u64
+    requires size { IsRecordSize K }
+    ensures { result ≡ per_page R.bit_count }
+{
+    (PAGE_BITS / R::width()) as u64
 }
 
 // So many bytes hold a record that begins at any bit of the first one, and the window that its last bits are read by.

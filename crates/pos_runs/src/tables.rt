@@ -1,11 +1,11 @@
 // The tables of a plotting run, on pages.
-ghost use Rattle.std.specs.Prelude.{◌≡◌, [], ◌∷◌, slice_set, ◌+◌, ◌-◌, ◌%◌, ◌^◌, ◌<◌, ◌≤◌, ℕ, true, slice_get, IfOk, IfErr, OnOk, OnErr};
+ghost use Rattle.std.specs.Prelude.{◌≡◌, [], ◌∷◌, slice_set, ◌+◌, ◌-◌, ◌/◌, ◌%◌, ◌^◌, ◌<◌, ◌≤◌, ℕ, true, length, slice_get, IfOk, IfErr, OnOk, OnErr};
 ghost use Rattle.pos_edge.specs.Faults.{Rose};
 ghost use Rattle.pos_edge.specs.Frame.{SameFaults};
 ghost use Rattle.pos_lists.specs.TableLists.{TableLists, entries, pairs_of};
 ghost use Rattle.pos_record.specs.Fields.{IsRecordSize};
 ghost use Rattle.pos_record.specs.Kinds.{number_width, pair_width};
-ghost use Rattle.pos_runs.specs.Pages.{ListStands};
+ghost use Rattle.pos_runs.specs.Pages.{ListStands, per_page};
 ghost use Rattle.pos_runs.specs.Lists.{IsListRead, reads_after};
 ghost use Rattle.pos_runs.specs.Runs.{TablesState, pages_at, StandsSealed, TablesStand};
 
@@ -140,16 +140,85 @@ impl<const K: u32> Tables<K> {
         ensures quiet { OnOk result (SameFaults (D.view disk.old) (D.view disk.new)) }
         ensures fault { IfErr result (λ fault. fault ≡ WorkFault.DiskFailed) }
     {
-        let found = match t {
-            2 => self.p2.get(disk, i)?,
-            3 => self.p3.get(disk, i)?,
-            4 => self.p4.get(disk, i)?,
-            5 => self.p5.get(disk, i)?,
-            6 => self.p6.get(disk, i)?,
-            7 => self.p7.get(disk, i)?,
-            _ => unreachable!(),
-        };
+        self.reach_pair(disk, t, i)?;
+        let found = self.pairs(t).here(i);
         Ok((found.left, found.right))
+    }
+
+    // The list of the pairs of table t.
+    #[inline(always)]
+    fn pairs(&self, t: u8) -> &Ordered<Pair, K>
+        requires first { 2 ≤ t }
+        requires last { t ≤ 7 }
+        ensures { result.now ≡ pages_at self.now (t - 1) }
+    {
+        match t {
+            2 => &self.p2,
+            3 => &self.p3,
+            4 => &self.p4,
+            5 => &self.p5,
+            6 => &self.p6,
+            _ => &self.p7,
+        }
+    }
+
+    // Brings the page of pair i of table t into memory where it is not there. In the order of places it nearly always is: only the
+    // test stands where a pair is asked for.
+    #[inline(always)]
+    fn reach_pair<D: Disk>(&mut self, disk: &mut D, t: u8, i: u64) -> Result<(), WorkFault>
+        requires size { IsRecordSize K }
+        requires first { 2 ≤ t }
+        requires last { t ≤ 7 }
+        requires stands { StandsSealed (pair_width K) (pages_at self.old (t - 1)) (D.view disk.old) }
+        requires there { i < (pages_at self.old (t - 1)).count }
+        ensures read { IsListRead (pages_at self.old (t - 1)) (pages_at self.new (t - 1)) (D.view disk.old) (D.view disk.new) }
+        ensures others { self.new ≡ slice_set self.old (t - 1) (pages_at self.new (t - 1)) }
+        ensures reads { (D.view disk.new).reads ≡ reads_after (pair_width K) i (pages_at self.old (t - 1)) (D.view disk.old) }
+        ensures page { OnOk result ((pages_at self.new (t - 1)).page ≡ i / per_page (pair_width K)) }
+        ensures long { OnOk result (length (pages_at self.new (t - 1)).bytes ≡ 65536) }
+        ensures stands { OnOk result ((ts : TableLists) → TablesStand K self.old ts (D.view disk.old)
+            → TablesStand K self.new ts (D.view disk.new)) }
+        ensures failed { OnErr result (Rose (D.view disk.old).faults (D.view disk.new).faults) }
+        ensures quiet { OnOk result (SameFaults (D.view disk.old) (D.view disk.new)) }
+        ensures fault { IfErr result (λ fault. fault ≡ WorkFault.DiskFailed) }
+    {
+        if self.pairs(t).is_here(i) {
+            return Ok(());
+        }
+        self.bring_pair(disk, t, i)?;
+        Ok(())
+    }
+
+    // As `reach_pair`, of a page that is not there.
+    #[cold]
+    #[inline(never)]
+    fn bring_pair<D: Disk>(&mut self, disk: &mut D, t: u8, i: u64) -> Result<(), WorkFault>
+        requires size { IsRecordSize K }
+        requires first { 2 ≤ t }
+        requires last { t ≤ 7 }
+        requires stands { StandsSealed (pair_width K) (pages_at self.old (t - 1)) (D.view disk.old) }
+        requires there { i < (pages_at self.old (t - 1)).count }
+        ensures read { IsListRead (pages_at self.old (t - 1)) (pages_at self.new (t - 1)) (D.view disk.old) (D.view disk.new) }
+        ensures others { self.new ≡ slice_set self.old (t - 1) (pages_at self.new (t - 1)) }
+        ensures reads { (D.view disk.new).reads ≡ reads_after (pair_width K) i (pages_at self.old (t - 1)) (D.view disk.old) }
+        ensures page { OnOk result ((pages_at self.new (t - 1)).page ≡ i / per_page (pair_width K)) }
+        ensures long { OnOk result (length (pages_at self.new (t - 1)).bytes ≡ 65536) }
+        ensures stands { OnOk result ((ts : TableLists) → TablesStand K self.old ts (D.view disk.old)
+            → TablesStand K self.new ts (D.view disk.new)) }
+        ensures failed { OnErr result (Rose (D.view disk.old).faults (D.view disk.new).faults) }
+        ensures quiet { OnOk result (SameFaults (D.view disk.old) (D.view disk.new)) }
+        ensures fault { IfErr result (λ fault. fault ≡ WorkFault.DiskFailed) }
+    {
+        match t {
+            2 => self.p2.reach(disk, i)?,
+            3 => self.p3.reach(disk, i)?,
+            4 => self.p4.reach(disk, i)?,
+            5 => self.p5.reach(disk, i)?,
+            6 => self.p6.reach(disk, i)?,
+            7 => self.p7.reach(disk, i)?,
+            _ => unreachable!(),
+        }
+        Ok(())
     }
 
     /// The y of entry i of table 7: the low 64 bits of the number, which is the whole number where it is below 2^(K + 6).
