@@ -1,6 +1,7 @@
 mod EntryLemmas
 mod ListLemmas
 mod TableLemmas
+mod KeepingLemmas
 mod FirstLemmas
 mod PairsLemmas
 mod BucketLemmas

@@ -1,4 +1,5 @@
 pub mod Drafts
+pub mod Keeping
 pub mod Tables
 pub mod Eights
 pub mod Waiting

@@ -1,7 +1,8 @@
 // The entries of a table while it is gathered.
-ghost use Rattle.std.specs.Prelude.{◌≡◌, ℕ, List, ◌+◌, ◌<◌, ◌≤◌, ◌++◌, ◌∷◌, [], length, slice_get, Some, OnOk, AllPairs};
+ghost use Rattle.std.specs.Prelude.{◌≡◌, ◌↔◌, ℕ, List, ◌+◌, ◌<◌, ◌≤◌, ◌++◌, ◌∷◌, [], IsTrue, length, map, slice_get, Some, OnOk, AllPairs};
 ghost use Rattle.std.specs.List.Sorted.{IsPermutation};
 ghost use Rattle.pos_tuple.specs.declared.entry.Entry.{Entry};
+ghost use Rattle.pos_forward.specs.Keeping.{IsShort, whole_draft};
 ghost use Rattle.pos_forward.specs.Tables.{AreUnsorted, IsSortedTable};
 
 use crate::push;
@@ -20,20 +21,33 @@ pub struct Draft {
     pub right: u64,
 }
 
+// A draft in half the room: one with no high metadata, whose places have 32 bits, as every one has of sizes up to 31. A
+// sort moves whole rows, and takes as long as these are large.
+#[derive(Clone, Copy)]
+pub(crate) struct ShortDraft {
+    pub(crate) low: u128,
+    pub(crate) y: u64,
+    pub(crate) left: u32,
+    pub(crate) right: u32,
+}
+
 /// The entries of one table while it is gathered. Contracts see their list. It is kept from table to table, so that no
 /// memory is taken anew.
 #[derive(Drop)]
 pub struct Drafts {
-    rows: Vec<Draft>,
+    // They are kept as short ones as long as all are short, and as whole ones from then on.
+    short: Vec<ShortDraft>,
+    whole: Vec<Draft>,
 }
 
 impl Model for Drafts {
     ghost use Rattle.std.specs.Prelude.{List};
     ghost use Rattle.pos_forward.specs.declared.drafts.Draft.{Draft};
+    ghost use Rattle.pos_forward.specs.Keeping.{kept_drafts};
 
     ghost Value = { List Draft };
 
-    ghost view = { λ d. d.rows.items };
+    ghost view = { λ d. kept_drafts d.short.items d.whole.items };
 }
 
 impl Drafts {
@@ -42,7 +56,8 @@ impl Drafts {
         ensures { result ≡ [] }
     {
         Drafts {
-            rows: Vec::new(alloc),
+            short: Vec::new(alloc),
+            whole: Vec::new(alloc),
         }
     }
 
@@ -50,7 +65,8 @@ impl Drafts {
     pub fn clear(&mut self)
         ensures { self.new ≡ [] }
     {
-        self.rows.clear();
+        self.short.clear();
+        self.whole.clear();
     }
 
     /// How many drafts there are.
@@ -58,7 +74,11 @@ impl Drafts {
     pub fn len(&self) -> usize
         ensures { result ≡ length self.now }
     {
-        self.rows.len()
+        if self.whole.is_empty() {
+            self.short.len()
+        } else {
+            self.whole.len()
+        }
     }
 
     /// The draft at a place.
@@ -67,7 +87,11 @@ impl Drafts {
         requires { i < length self.now }
         ensures { slice_get self.now i ≡ Some result }
     {
-        self.rows[i]
+        if self.whole.is_empty() {
+            whole_of(&self.short[i])
+        } else {
+            self.whole[i]
+        }
     }
 
     /// Orders the drafts by y, equal ones in any order. Takes no memory.
@@ -79,15 +103,11 @@ impl Drafts {
         ensures table { (k n : ℕ) (es : List Entry) → AreUnsorted k (n + 2) es self.old
             → IsSortedTable k n es self.new }
     {
-        self.rows.sort_unstable_by_key(|row: &Draft| row.y);
-    }
-
-    // The drafts by place.
-    #[inline(always)]
-    pub(crate) fn rows(&self) -> &[Draft]
-        ensures { result.now ≡ self.now }
-    {
-        self.rows.as_slice()
+        if self.whole.is_empty() {
+            self.short.sort_unstable_by_key(|row: &ShortDraft| row.y);
+        } else {
+            self.whole.sort_unstable_by_key(|row: &Draft| row.y);
+        }
     }
 
     // One draft more. The only error is want of memory.
@@ -95,6 +115,66 @@ impl Drafts {
     pub(crate) fn add(&mut self, draft: Draft) -> Result<(), Memory>
         ensures { OnOk result (self.new ≡ self.old ++ draft ∷ []) }
     {
-        push(&mut self.rows, draft)
+        if self.whole.is_empty() && is_short(&draft) {
+            return push(&mut self.short, short_of(&draft));
+        }
+        self.add_whole(draft)
+    }
+
+    // One draft more, where the drafts are not all short ones.
+    fn add_whole(&mut self, draft: Draft) -> Result<(), Memory>
+        ensures { OnOk result (self.new ≡ self.old ++ draft ∷ []) }
+    {
+        if self.whole.is_empty() {
+            push_whole(self.short.as_slice(), &mut self.whole)?;
+        }
+        push(&mut self.whole, draft)
+    }
+}
+
+// Puts these drafts behind the others.
+fn push_whole(rows: &[ShortDraft], whole: &mut Vec<Draft>) -> Result<(), Memory>
+    ensures { OnOk result (whole.new.items ≡ whole.old.items ++ map whole_draft rows.now) }
+{
+    for i in 0..rows.len() {
+        let row = &rows[i];
+        push(whole, whole_of(row))?;
+    }
+    Ok(())
+}
+
+// Whether a draft can be kept as a short one.
+#[inline(always)]
+fn is_short(draft: &Draft) -> bool
+    ensures { IsTrue result ↔ IsShort draft.now }
+{
+    draft.high == 0 && draft.left <= u32::MAX as u64 && draft.right <= u32::MAX as u64
+}
+
+// The short form of a draft.
+#[inline(always)]
+fn short_of(draft: &Draft) -> ShortDraft
+    requires { IsShort draft.now }
+    ensures { whole_draft result ≡ draft.now }
+{
+    ShortDraft {
+        low: draft.low,
+        y: draft.y,
+        left: draft.left as u32,
+        right: draft.right as u32,
+    }
+}
+
+// The draft of a short form.
+#[inline(always)]
+fn whole_of(row: &ShortDraft) -> Draft
+    ensures { result ≡ whole_draft row.now }
+{
+    Draft {
+        y: row.y,
+        high: 0,
+        low: row.low,
+        left: row.left as u64,
+        right: row.right as u64,
     }
 }

@@ -1,5 +1,5 @@
-// What the records of a run are made of, and the entries that rows which are read back stand for.
-ghost use Rattle.std.specs.Prelude.{◌≡◌, ◌≤◌, ℕ};
+// What is stored, what the records of a run are made of, and the entries that rows which are read back stand for.
+ghost use Rattle.std.specs.Prelude.{◌≡◌, ◌<◌, ◌≤◌, ℕ, List, length, slice_get, Some};
 ghost use Rattle.pos_tuple.specs.Node.{IsEntry};
 ghost use Rattle.pos_tuple.specs.declared.entry.Entry.{Entry};
 ghost use Rattle.pos_record.specs.Fields.{IsRecordSize};
@@ -7,9 +7,49 @@ ghost use Rattle.pos_record.specs.Kinds.{metadata_number};
 ghost use Rattle.pos_forward.specs.Drafts.{entry_of_number, first_row_entry};
 ghost use Rattle.pos_forward.specs.Stored.{first_value, draft_pair_record, draft_number, draft_row};
 
-use crate::{Draft, entry_of_parts};
+use crate::{Draft, Drafts, entry_of_parts};
 use pos_record::{First, Number, Pair, Record, Row, Value};
 use pos_tuple::{Entry, Size};
+
+// A list of what is stored, which is asked for one after another.
+pub(crate) trait Rows<X> {
+    ghost rows: { Self → List X };
+
+    fn count(&self) -> usize
+        ensures { result ≡ length (rows self.now) };
+
+    fn row(&self, i: usize) -> X
+        requires { i < length (rows self.now) }
+        ensures { slice_get (rows self.now) i ≡ Some result };
+}
+
+impl Rows<First> for Vec<First> {
+    ghost rows = { λ rows. rows.items };
+
+    #[inline(always)]
+    fn count(&self) -> usize {
+        self.len()
+    }
+
+    #[inline(always)]
+    fn row(&self, i: usize) -> First {
+        self[i]
+    }
+}
+
+impl Rows<Draft> for Drafts {
+    ghost rows = { λ drafts. drafts };
+
+    #[inline(always)]
+    fn count(&self) -> usize {
+        self.len()
+    }
+
+    #[inline(always)]
+    fn row(&self, i: usize) -> Draft {
+        self.get(i)
+    }
+}
 
 // A record that is made of another one.
 pub(crate) trait MadeOf<X>: Copy {

@@ -15,7 +15,7 @@ ghost use Rattle.pos_forward.specs.NextTables.{AreDrafted, AreFirstMade, IsFirst
 use crate::gather::{Room, gather};
 use crate::kinds::{MadeOf, Stored};
 use crate::store::store;
-use crate::{Draft, ForwardFault, first_table};
+use crate::{Draft, Drafts, ForwardFault, first_table};
 use pos_edge::{Disk, MAX_SCRATCH_FILES, Scratch, WorkFault};
 use pos_lanes::Lanes;
 use pos_record::{First, Pair, Record, Value};
@@ -45,7 +45,7 @@ pub(crate) fn one_table<D: Disk, const K: u32>(
     if first_table(id, Size::of(K), &mut rows).is_err() {
         return Err(ForwardFault::Work(WorkFault::Memory));
     }
-    match store::<D, First, Value, First, K>(alloc, scratch, disk, rows.as_slice()) {
+    match store::<D, First, Vec<First>, Value, First, K>(alloc, scratch, disk, &rows) {
         Ok(made) => Ok(made),
         Err(fault) => Err(ForwardFault::Work(fault)),
     }
@@ -88,7 +88,7 @@ pub(crate) fn next_table<D: Disk, R: Stored<K>, S: Record<K> + MadeOf<Draft>, co
         → Rose (D.view disk.old).reads (D.view disk.new).reads) }
 {
     make_drafts::<D, R, K>(t, room, scratch, disk, lanes, rows)?;
-    match store::<D, Draft, Pair, S, K>(alloc, scratch, disk, room.drafts.rows()) {
+    match store::<D, Draft, Drafts, Pair, S, K>(alloc, scratch, disk, &room.drafts) {
         Ok(made) => Ok(made),
         Err(fault) => Err(ForwardFault::Work(fault)),
     }

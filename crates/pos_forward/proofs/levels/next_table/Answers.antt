@@ -1,8 +1,7 @@
-use Rattle.std.proofs.Common.{◌≡◌, ◌+◌, ◌≤◌, ◌<◌, ◌^◌, List, length, sym, ap, subst, ◌∙◌, arith, All}
+use Rattle.std.proofs.Common.{◌≡◌, ◌+◌, ◌≤◌, ◌^◌, length, refl, sym, ap, subst, ◌∙◌, arith, All}
 use Rattle.std.proofs.lemmas.Result.{err_from_is_err_and}
 use Rattle.pos_edge.specs.ScratchNames.{ScratchState}
 use Rattle.pos_edge.proofs.FaultLemmas.{Rose-until}
-use Rattle.pos_forward.specs.declared.drafts.Draft.{Draft}
 use Rattle.pos_forward.specs.Drafts.{IsPairDraft}
 use Rattle.pos_forward.proofs.NextLemmas.{answer_done, answer_turned, answer_work, drafts_fit, few_drafts, few_made, given_wider, next_done, next_fit, next_made, next_work, pairs_fit}
 use Rattle.pos_forward.proofs.WorkLemmas.{made_few, most_then}
@@ -23,9 +22,8 @@ pub store-requires : goal.store-requires
 store-requires g c =
     let made : c.make_drafts.new.scratch.made ≡ c.args.scratch.now.made = ap (λ (z : ScratchState). z.made) c.in_ok-make_drafts.ensures.left in
     let drafted = c.in_ok-make_drafts.ensures.drafted in
-    let fit : All (IsPairDraft g.row.K c.args.t (2 ^ (g.row.K + 1))) c.rows.result.now =
-    subst (λ (ds : List Draft). All (IsPairDraft g.row.K c.args.t (2 ^ (g.row.K + 1))) ds) (sym c.rows.ensures)
-    (drafts_fit g.row.K c.args.t c.args.room.now.capacity g.R.Stored.entry g.R.Record.read g.R.Record.bit_count c.args.rows c.make_drafts.new.room.drafts (g.D.Disk.view c.args.disk.now) (let first = c.requires.first_table in let below = c.requires.below in omega arith) c.requires.few drafted) in (
+    let fit : All (IsPairDraft g.row.K c.args.t (2 ^ (g.row.K + 1))) c.make_drafts.new.room.drafts =
+    drafts_fit g.row.K c.args.t c.args.room.now.capacity g.R.Stored.entry g.R.Record.read g.R.Record.bit_count c.args.rows c.make_drafts.new.room.drafts (g.D.Disk.view c.args.disk.now) (let first = c.requires.first_table in let below = c.requires.below in omega arith) c.requires.few drafted in (
       omega arith,
       (
         omega arith,
@@ -34,8 +32,8 @@ store-requires g c =
           (
             subst (λ m. m + 2 ≤ 10000) (sym made) c.requires.files,
             (
-              subst (λ (ds : List Draft). length ds < 2 ^ 52) (sym c.rows.ensures) (few_drafts g.row.K c.args.room.now.capacity (length c.make_drafts.new.room.drafts) c.requires.size.1 c.requires.capacity drafted.within),
-              (pairs_fit g.row.K c.args.t c.rows.result.now fit, next_fit g.row.K c.args.t g.S.Record.fits g.S.MadeOf.made_of c.rows.result.now c.requires.fits fit),
+              few_drafts g.row.K c.args.room.now.capacity (length c.make_drafts.new.room.drafts) c.requires.size.1 c.requires.capacity drafted.within,
+              (pairs_fit g.row.K c.args.t c.make_drafts.new.room.drafts fit, next_fit g.row.K c.args.t g.S.Record.fits g.S.MadeOf.made_of c.make_drafts.new.room.drafts c.requires.fits fit),
             ),
           ),
         ),
@@ -61,8 +59,8 @@ returns-in-Ok-clause-answer g c =
 pub returns-in-Ok-clause-made : goal.returns-in-Ok-clause-made
 returns-in-Ok-clause-made g c =
     let first = c.in_ok-make_drafts.ensures in
-    next_made g.row.K c.args.t c.args.room.now.capacity g.R.Stored.entry g.R.Record.read g.R.Record.bit_count g.S.MadeOf.made_of g.S.Record.read g.S.Record.bit_count c.args.scratch.now c.make_drafts.new.scratch c.store.new.scratch c.args.rows c.in-Ok.made.0 c.in-Ok.made.1 c.rows.result.now c.make_drafts.new.room.drafts
-    (g.D.Disk.view c.args.disk.now) (g.D.Disk.view c.make_drafts.new.disk) (g.D.Disk.view c.store.new.disk) first.left first.done first.drafted c.rows.ensures c.in-Ok.ensures.stored
+    next_made g.row.K c.args.t c.args.room.now.capacity g.R.Stored.entry g.R.Record.read g.R.Record.bit_count g.S.MadeOf.made_of g.S.Record.read g.S.Record.bit_count c.args.scratch.now c.make_drafts.new.scratch c.store.new.scratch c.args.rows c.in-Ok.made.0 c.in-Ok.made.1 c.make_drafts.new.room.drafts c.make_drafts.new.room.drafts
+    (g.D.Disk.view c.args.disk.now) (g.D.Disk.view c.make_drafts.new.disk) (g.D.Disk.view c.store.new.disk) first.left first.done first.drafted refl c.in-Ok.ensures.stored
 
 pub returns-in-Ok-clause-reads : goal.returns-in-Ok-clause-reads
 returns-in-Ok-clause-reads g c = λ some fresh.

@@ -8,6 +8,6 @@ abbrev pub invariant-loop-i : goal.invariant-loop-i
 invariant-loop-i g l = record {
   writes : AreListWrites l.initial.first l.first l.initial.second l.second (g.D.Disk.view l.initial.disk) (g.D.Disk.view l.disk);
   more : HaveMore g.R.Record.read g.R.Record.bit_count g.S.Record.read g.S.Record.bit_count l.initial.first l.first l.initial.second l.second
-      (map g.R.MadeOf.made_of (take l.i l.rows)) (map g.S.MadeOf.made_of (take l.i l.rows)) (g.D.Disk.view l.initial.disk) (g.D.Disk.view l.disk);
+      (map g.R.MadeOf.made_of (take l.i (g.W.Rows.rows l.rows))) (map g.S.MadeOf.made_of (take l.i (g.W.Rows.rows l.rows))) (g.D.Disk.view l.initial.disk) (g.D.Disk.view l.disk);
   quiet : SameFaults (g.D.Disk.view l.initial.disk) (g.D.Disk.view l.disk);
 }

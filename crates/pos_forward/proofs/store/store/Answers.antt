@@ -28,27 +28,27 @@ returns-in_err-seal_both-clause-work g c =
     let first = c.in_ok-first.ensures in
     let made = way_new g.R.Record.read g.R.Record.bit_count g.S.Record.read g.S.Record.bit_count c.args.scratch.now c.make_two.new.scratch c.in_ok-first.first c.in_ok-first.second (g.D.Disk.view c.args.disk.now) (g.D.Disk.view c.make_two.new.disk) first.work first.done first.answer.quiet first.lists in
     let more = c.in_ok-push_all.ensures in
-    let pushed = way_pushed g.R.Record.read g.R.Record.bit_count g.S.Record.read g.S.Record.bit_count c.args.scratch.now c.make_two.new.scratch c.in_ok-first.first c.push_all.new.first c.in_ok-first.second c.push_all.new.second (map g.R.MadeOf.made_of c.args.rows.now) (map g.S.MadeOf.made_of c.args.rows.now) (g.D.Disk.view c.args.disk.now) (g.D.Disk.view c.make_two.new.disk) (g.D.Disk.view c.push_all.new.disk) (g.met.D.Disk.is_disk c.make_two.new.disk) made more.writes more.quiet more.more in
-    way_work g.R.Record.read g.R.Record.bit_count g.S.Record.read g.S.Record.bit_count c.args.scratch.now c.make_two.new.scratch c.push_all.new.first c.seal_both.new.first c.push_all.new.second c.seal_both.new.second (map g.R.MadeOf.made_of c.args.rows.now) (map g.S.MadeOf.made_of c.args.rows.now) (g.D.Disk.view c.args.disk.now) (g.D.Disk.view c.push_all.new.disk) (g.D.Disk.view c.seal_both.new.disk) (g.met.D.Disk.is_disk c.push_all.new.disk) pushed c.in_err-seal_both.ensures.writes
+    let pushed = way_pushed g.R.Record.read g.R.Record.bit_count g.S.Record.read g.S.Record.bit_count c.args.scratch.now c.make_two.new.scratch c.in_ok-first.first c.push_all.new.first c.in_ok-first.second c.push_all.new.second (map g.R.MadeOf.made_of (g.W.Rows.rows c.args.rows.now)) (map g.S.MadeOf.made_of (g.W.Rows.rows c.args.rows.now)) (g.D.Disk.view c.args.disk.now) (g.D.Disk.view c.make_two.new.disk) (g.D.Disk.view c.push_all.new.disk) (g.met.D.Disk.is_disk c.make_two.new.disk) made more.writes more.quiet more.more in
+    way_work g.R.Record.read g.R.Record.bit_count g.S.Record.read g.S.Record.bit_count c.args.scratch.now c.make_two.new.scratch c.push_all.new.first c.seal_both.new.first c.push_all.new.second c.seal_both.new.second (map g.R.MadeOf.made_of (g.W.Rows.rows c.args.rows.now)) (map g.S.MadeOf.made_of (g.W.Rows.rows c.args.rows.now)) (g.D.Disk.view c.args.disk.now) (g.D.Disk.view c.push_all.new.disk) (g.D.Disk.view c.seal_both.new.disk) (g.met.D.Disk.is_disk c.push_all.new.disk) pushed c.in_err-seal_both.ensures.writes
 
 pub returns-in_err-seal_both-clause-answer : goal.returns-in_err-seal_both-clause-answer
 returns-in_err-seal_both-clause-answer g c =
     let first = c.in_ok-first.ensures in
     let made = way_new g.R.Record.read g.R.Record.bit_count g.S.Record.read g.S.Record.bit_count c.args.scratch.now c.make_two.new.scratch c.in_ok-first.first c.in_ok-first.second (g.D.Disk.view c.args.disk.now) (g.D.Disk.view c.make_two.new.disk) first.work first.done first.answer.quiet first.lists in
     let more = c.in_ok-push_all.ensures in
-    let pushed = way_pushed g.R.Record.read g.R.Record.bit_count g.S.Record.read g.S.Record.bit_count c.args.scratch.now c.make_two.new.scratch c.in_ok-first.first c.push_all.new.first c.in_ok-first.second c.push_all.new.second (map g.R.MadeOf.made_of c.args.rows.now) (map g.S.MadeOf.made_of c.args.rows.now) (g.D.Disk.view c.args.disk.now) (g.D.Disk.view c.make_two.new.disk) (g.D.Disk.view c.push_all.new.disk) (g.met.D.Disk.is_disk c.make_two.new.disk) made more.writes more.quiet more.more in
+    let pushed = way_pushed g.R.Record.read g.R.Record.bit_count g.S.Record.read g.S.Record.bit_count c.args.scratch.now c.make_two.new.scratch c.in_ok-first.first c.push_all.new.first c.in_ok-first.second c.push_all.new.second (map g.R.MadeOf.made_of (g.W.Rows.rows c.args.rows.now)) (map g.S.MadeOf.made_of (g.W.Rows.rows c.args.rows.now)) (g.D.Disk.view c.args.disk.now) (g.D.Disk.view c.make_two.new.disk) (g.D.Disk.view c.push_all.new.disk) (g.met.D.Disk.is_disk c.make_two.new.disk) made more.writes more.quiet more.more in
     let p = err_from_is_err_and c.from_residual-in_err-seal_both.result c.from_residual-in_err-seal_both.ensures.1 in
     let fault = c.in_err-seal_both.ensures in
-    way_answer g.R.Record.read g.R.Record.bit_count g.S.Record.read g.S.Record.bit_count c.args.scratch.now c.make_two.new.scratch c.push_all.new.first c.push_all.new.second (map g.R.MadeOf.made_of c.args.rows.now) (map g.S.MadeOf.made_of c.args.rows.now) (g.D.Disk.view c.args.disk.now) (g.D.Disk.view c.push_all.new.disk) (g.D.Disk.view c.seal_both.new.disk) c.from_residual-in_err-seal_both.result p.0 c.in_err-seal_both.field-0.0 c.requires.files pushed p.1 p.2 fault.failed fault.quiet fault.fault
+    way_answer g.R.Record.read g.R.Record.bit_count g.S.Record.read g.S.Record.bit_count c.args.scratch.now c.make_two.new.scratch c.push_all.new.first c.push_all.new.second (map g.R.MadeOf.made_of (g.W.Rows.rows c.args.rows.now)) (map g.S.MadeOf.made_of (g.W.Rows.rows c.args.rows.now)) (g.D.Disk.view c.args.disk.now) (g.D.Disk.view c.push_all.new.disk) (g.D.Disk.view c.seal_both.new.disk) c.from_residual-in_err-seal_both.result p.0 c.in_err-seal_both.field-0.0 c.requires.files pushed p.1 p.2 fault.failed fault.quiet fault.fault
 
 pub returns-clause-work : goal.returns-clause-work
 returns-clause-work g c =
     let first = c.in_ok-first.ensures in
     let made = way_new g.R.Record.read g.R.Record.bit_count g.S.Record.read g.S.Record.bit_count c.args.scratch.now c.make_two.new.scratch c.in_ok-first.first c.in_ok-first.second (g.D.Disk.view c.args.disk.now) (g.D.Disk.view c.make_two.new.disk) first.work first.done first.answer.quiet first.lists in
     let more = c.in_ok-push_all.ensures in
-    let pushed = way_pushed g.R.Record.read g.R.Record.bit_count g.S.Record.read g.S.Record.bit_count c.args.scratch.now c.make_two.new.scratch c.in_ok-first.first c.push_all.new.first c.in_ok-first.second c.push_all.new.second (map g.R.MadeOf.made_of c.args.rows.now) (map g.S.MadeOf.made_of c.args.rows.now) (g.D.Disk.view c.args.disk.now) (g.D.Disk.view c.make_two.new.disk) (g.D.Disk.view c.push_all.new.disk) (g.met.D.Disk.is_disk c.make_two.new.disk) made more.writes more.quiet more.more in
+    let pushed = way_pushed g.R.Record.read g.R.Record.bit_count g.S.Record.read g.S.Record.bit_count c.args.scratch.now c.make_two.new.scratch c.in_ok-first.first c.push_all.new.first c.in_ok-first.second c.push_all.new.second (map g.R.MadeOf.made_of (g.W.Rows.rows c.args.rows.now)) (map g.S.MadeOf.made_of (g.W.Rows.rows c.args.rows.now)) (g.D.Disk.view c.args.disk.now) (g.D.Disk.view c.make_two.new.disk) (g.D.Disk.view c.push_all.new.disk) (g.met.D.Disk.is_disk c.make_two.new.disk) made more.writes more.quiet more.more in
     let last = c.in_ok-seal_both.ensures in
-    let sealed = way_sealed g.R.Record.read g.R.Record.bit_count g.S.Record.read g.S.Record.bit_count c.args.scratch.now c.make_two.new.scratch c.push_all.new.first c.seal_both.new.first c.push_all.new.second c.seal_both.new.second (map g.R.MadeOf.made_of c.args.rows.now) (map g.S.MadeOf.made_of c.args.rows.now) (g.D.Disk.view c.args.disk.now) (g.D.Disk.view c.push_all.new.disk) (g.D.Disk.view c.seal_both.new.disk) (g.met.D.Disk.is_disk c.push_all.new.disk) pushed last.writes last.quiet last.sealed in
+    let sealed = way_sealed g.R.Record.read g.R.Record.bit_count g.S.Record.read g.S.Record.bit_count c.args.scratch.now c.make_two.new.scratch c.push_all.new.first c.seal_both.new.first c.push_all.new.second c.seal_both.new.second (map g.R.MadeOf.made_of (g.W.Rows.rows c.args.rows.now)) (map g.S.MadeOf.made_of (g.W.Rows.rows c.args.rows.now)) (g.D.Disk.view c.args.disk.now) (g.D.Disk.view c.push_all.new.disk) (g.D.Disk.view c.seal_both.new.disk) (g.met.D.Disk.is_disk c.push_all.new.disk) pushed last.writes last.quiet last.sealed in
     sealed.work
 
 pub returns-clause-done : goal.returns-clause-done
@@ -56,9 +56,9 @@ returns-clause-done g c =
     let first = c.in_ok-first.ensures in
     let made = way_new g.R.Record.read g.R.Record.bit_count g.S.Record.read g.S.Record.bit_count c.args.scratch.now c.make_two.new.scratch c.in_ok-first.first c.in_ok-first.second (g.D.Disk.view c.args.disk.now) (g.D.Disk.view c.make_two.new.disk) first.work first.done first.answer.quiet first.lists in
     let more = c.in_ok-push_all.ensures in
-    let pushed = way_pushed g.R.Record.read g.R.Record.bit_count g.S.Record.read g.S.Record.bit_count c.args.scratch.now c.make_two.new.scratch c.in_ok-first.first c.push_all.new.first c.in_ok-first.second c.push_all.new.second (map g.R.MadeOf.made_of c.args.rows.now) (map g.S.MadeOf.made_of c.args.rows.now) (g.D.Disk.view c.args.disk.now) (g.D.Disk.view c.make_two.new.disk) (g.D.Disk.view c.push_all.new.disk) (g.met.D.Disk.is_disk c.make_two.new.disk) made more.writes more.quiet more.more in
+    let pushed = way_pushed g.R.Record.read g.R.Record.bit_count g.S.Record.read g.S.Record.bit_count c.args.scratch.now c.make_two.new.scratch c.in_ok-first.first c.push_all.new.first c.in_ok-first.second c.push_all.new.second (map g.R.MadeOf.made_of (g.W.Rows.rows c.args.rows.now)) (map g.S.MadeOf.made_of (g.W.Rows.rows c.args.rows.now)) (g.D.Disk.view c.args.disk.now) (g.D.Disk.view c.make_two.new.disk) (g.D.Disk.view c.push_all.new.disk) (g.met.D.Disk.is_disk c.make_two.new.disk) made more.writes more.quiet more.more in
     let last = c.in_ok-seal_both.ensures in
-    let sealed = way_sealed g.R.Record.read g.R.Record.bit_count g.S.Record.read g.S.Record.bit_count c.args.scratch.now c.make_two.new.scratch c.push_all.new.first c.seal_both.new.first c.push_all.new.second c.seal_both.new.second (map g.R.MadeOf.made_of c.args.rows.now) (map g.S.MadeOf.made_of c.args.rows.now) (g.D.Disk.view c.args.disk.now) (g.D.Disk.view c.push_all.new.disk) (g.D.Disk.view c.seal_both.new.disk) (g.met.D.Disk.is_disk c.push_all.new.disk) pushed last.writes last.quiet last.sealed in
+    let sealed = way_sealed g.R.Record.read g.R.Record.bit_count g.S.Record.read g.S.Record.bit_count c.args.scratch.now c.make_two.new.scratch c.push_all.new.first c.seal_both.new.first c.push_all.new.second c.seal_both.new.second (map g.R.MadeOf.made_of (g.W.Rows.rows c.args.rows.now)) (map g.S.MadeOf.made_of (g.W.Rows.rows c.args.rows.now)) (g.D.Disk.view c.args.disk.now) (g.D.Disk.view c.push_all.new.disk) (g.D.Disk.view c.seal_both.new.disk) (g.met.D.Disk.is_disk c.push_all.new.disk) pushed last.writes last.quiet last.sealed in
     sealed.done
 
 pub returns-clause-stored : goal.returns-clause-stored
@@ -66,7 +66,7 @@ returns-clause-stored g c =
     let first = c.in_ok-first.ensures in
     let made = way_new g.R.Record.read g.R.Record.bit_count g.S.Record.read g.S.Record.bit_count c.args.scratch.now c.make_two.new.scratch c.in_ok-first.first c.in_ok-first.second (g.D.Disk.view c.args.disk.now) (g.D.Disk.view c.make_two.new.disk) first.work first.done first.answer.quiet first.lists in
     let more = c.in_ok-push_all.ensures in
-    let pushed = way_pushed g.R.Record.read g.R.Record.bit_count g.S.Record.read g.S.Record.bit_count c.args.scratch.now c.make_two.new.scratch c.in_ok-first.first c.push_all.new.first c.in_ok-first.second c.push_all.new.second (map g.R.MadeOf.made_of c.args.rows.now) (map g.S.MadeOf.made_of c.args.rows.now) (g.D.Disk.view c.args.disk.now) (g.D.Disk.view c.make_two.new.disk) (g.D.Disk.view c.push_all.new.disk) (g.met.D.Disk.is_disk c.make_two.new.disk) made more.writes more.quiet more.more in
+    let pushed = way_pushed g.R.Record.read g.R.Record.bit_count g.S.Record.read g.S.Record.bit_count c.args.scratch.now c.make_two.new.scratch c.in_ok-first.first c.push_all.new.first c.in_ok-first.second c.push_all.new.second (map g.R.MadeOf.made_of (g.W.Rows.rows c.args.rows.now)) (map g.S.MadeOf.made_of (g.W.Rows.rows c.args.rows.now)) (g.D.Disk.view c.args.disk.now) (g.D.Disk.view c.make_two.new.disk) (g.D.Disk.view c.push_all.new.disk) (g.met.D.Disk.is_disk c.make_two.new.disk) made more.writes more.quiet more.more in
     let last = c.in_ok-seal_both.ensures in
-    let sealed = way_sealed g.R.Record.read g.R.Record.bit_count g.S.Record.read g.S.Record.bit_count c.args.scratch.now c.make_two.new.scratch c.push_all.new.first c.seal_both.new.first c.push_all.new.second c.seal_both.new.second (map g.R.MadeOf.made_of c.args.rows.now) (map g.S.MadeOf.made_of c.args.rows.now) (g.D.Disk.view c.args.disk.now) (g.D.Disk.view c.push_all.new.disk) (g.D.Disk.view c.seal_both.new.disk) (g.met.D.Disk.is_disk c.push_all.new.disk) pushed last.writes last.quiet last.sealed in
-    way_stored g.R.Record.read g.R.Record.bit_count g.S.Record.read g.S.Record.bit_count c.args.scratch.now c.make_two.new.scratch c.push_all.new.first c.seal_both.new.first c.push_all.new.second c.seal_both.new.second (map g.R.MadeOf.made_of c.args.rows.now) (map g.S.MadeOf.made_of c.args.rows.now) (g.D.Disk.view c.args.disk.now) (g.D.Disk.view c.push_all.new.disk) (g.D.Disk.view c.seal_both.new.disk) sealed last.sealed
+    let sealed = way_sealed g.R.Record.read g.R.Record.bit_count g.S.Record.read g.S.Record.bit_count c.args.scratch.now c.make_two.new.scratch c.push_all.new.first c.seal_both.new.first c.push_all.new.second c.seal_both.new.second (map g.R.MadeOf.made_of (g.W.Rows.rows c.args.rows.now)) (map g.S.MadeOf.made_of (g.W.Rows.rows c.args.rows.now)) (g.D.Disk.view c.args.disk.now) (g.D.Disk.view c.push_all.new.disk) (g.D.Disk.view c.seal_both.new.disk) (g.met.D.Disk.is_disk c.push_all.new.disk) pushed last.writes last.quiet last.sealed in
+    way_stored g.R.Record.read g.R.Record.bit_count g.S.Record.read g.S.Record.bit_count c.args.scratch.now c.make_two.new.scratch c.push_all.new.first c.seal_both.new.first c.push_all.new.second c.seal_both.new.second (map g.R.MadeOf.made_of (g.W.Rows.rows c.args.rows.now)) (map g.S.MadeOf.made_of (g.W.Rows.rows c.args.rows.now)) (g.D.Disk.view c.args.disk.now) (g.D.Disk.view c.push_all.new.disk) (g.D.Disk.view c.seal_both.new.disk) sealed last.sealed

@@ -1,4 +1,4 @@
-use Rattle.std.proofs.Common.{◌≡◌, ◌+◌, ◌<◌, ◌≤◌, ◌^◌, length, arith, ap}
+use Rattle.std.proofs.Common.{◌≡◌, ◌≤◌, ◌^◌, length, arith, ap}
 use Rattle.pos_forward.specs.declared.waiting.Waiting.{Waiting}
 use Rattle.pos_forward.proofs.TakenLemmas.{has-overfull, right-end}
 use Rattle.pos_forward.proofs.matcher.Matcher.close.Goals as goal
