@@ -172,11 +172,6 @@ shuffled_inside pair entries count i old entry h l is e =
 pub items_sorted : {X : Type 0} (v : Vec X Global) (olds news : List X) → olds ≡ v.items → IsPermutation olds news → (with_items v news).items ≡ news
 items_sorted v olds news is p = with_items_is v news (length_permutation olds news p ∙ ap length is ∙ sym v.ok.0)
 
--- listed entries in another order
-pub sorted_shuffled : {X : Type 0} (pair : X → ℕ × ℕ) (count bound : ℕ) (olds news : List X) → AreListed count bound (map pair olds) → IsPermutation olds news
-    → AreShuffled count (map pair news)
-sorted_shuffled pair count bound olds news h p = record { gathered = map pair olds; bound = bound; listed = h; permuted = IsPermutation-map pair olds news p }
-
 -- their points stay below the bound
 pub sorted_small : {X : Type 0} (pair : X → ℕ × ℕ) (count bound : ℕ) (olds news : List X) → AreListed count bound (map pair olds) → IsPermutation olds news
     → (s : ℕ) → s < length news → first_in (map pair news) s < bound

@@ -1,7 +1,5 @@
 -- The renumbering of one table: its files beside the writer's, what it gives, and what never comes over the tables of an id.
 use Rattle.std.proofs.Common.{◌≡◌, ℕ, suc, ◌+◌, ◌-◌, ◌*◌, ◌/◌, ◌^◌, ◌<◌, ◌≤◌, Bool, true, List, slice_index, sym, refl, ◌∙◌, ap, subst, arith}
-use Rattle.std.proofs.Math.Nat.{mul-le-mul}
-use Rattle.std.proofs.Math.Pow.{pow_mono}
 use Rattle.pos_edge.specs.declared.scratch.ScratchDamage.{ScratchDamage}
 use Rattle.pos_edge.specs.View.{View}
 use Rattle.pos_edge.specs.Frame.{Just, KeepsIds, NameOf, Nothing}
@@ -64,16 +62,6 @@ can_wider k t limit bound wide below tables v most h = record {
   limited = h.limited;
   exact = let e = h.exact in omega arith;
 }
-
--- the points of any numbers fit 128 bits
-pub wide_exact : (k limit : ℕ) → k ≤ 50 → limit ≤ 2 ^ (k + 1) → limit * (limit - 1) / 2 ≤ 2 ^ 128
-wide_exact k limit size few =
-    let wide : k + 1 ≤ 51 = omega arith in
-    let most : 2 ^ (k + 1) ≤ 2 ^ 51 = pow_mono wide in
-    let low : limit ≤ 2 ^ 51 = omega arith in
-    let less : limit - 1 ≤ 2 ^ 51 = omega arith in
-    let square : limit * (limit - 1) ≤ 2 ^ 51 * 2 ^ 51 = mul-le-mul low less in
-    omega arith
 
 -- ---- what it gives
 

@@ -4,7 +4,7 @@ use Rattle.std.specs.Prelude.{is_ok, IfOk, IsErrOf, OnOk}
 use Rattle.std.proofs.lemmas.Bool.{true≢false}
 use Rattle.pos_edge.specs.declared.scratch.ScratchDamage.{ScratchDamage}
 use Rattle.pos_edge.specs.declared.scratch.WorkFault.{WorkFault}
-use Rattle.pos_edge.specs.declared.scratch.WorkFault.TheVariants.{DiskFailed, Exists, Memory, Scratch}
+use Rattle.pos_edge.specs.declared.scratch.WorkFault.TheVariants.{DiskFailed, Exists, Scratch}
 use Rattle.pos_edge.specs.View.{View}
 use Rattle.pos_edge.specs.Frame.{ReadsOnly, SameFaults, Nothing, Just, NameOf}
 use Rattle.pos_edge.proofs.FaultLemmas.{Rose-since, faults_then}
@@ -90,15 +90,6 @@ pass_damage X file d a b out writes same = record {
   quiet = λ other. same;
   makes_none = λ n is. cc;
   range = λ x is. let one : d ≡ x = cc in subst IsOutOfRange one out;
-}
-
-pub pass_memory : (X : Type 0) (file : ℕ) (a b : View) → WritesOnly file a b → SameFaults a b → IsPass {X = X} file (Err Memory) a b
-pass_memory X file a b writes same = record {
-  writes = writes;
-  failed = λ is. absurd (let t : true ≡ true = refl in cc);
-  quiet = λ other. same;
-  makes_none = λ n is. cc;
-  range = λ d is. cc;
 }
 
 -- reads of any file leave the writer's file

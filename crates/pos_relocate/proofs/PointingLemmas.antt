@@ -1,5 +1,5 @@
 -- Points of pairs of numbers below a limit.
-use Rattle.std.proofs.Common.{◌≡◌, ◌≢◌, ℕ, suc, ◌+◌, ◌-◌, ◌*◌, ◌/◌, ◌^◌, ◌<◌, ◌≤◌, Some, List, sym, ap, ◌∙◌, subst, inl, inr, arith}
+use Rattle.std.proofs.Common.{◌≡◌, ◌≢◌, ℕ, suc, ◌+◌, ◌-◌, ◌*◌, ◌/◌, ◌^◌, ◌<◌, ◌≤◌, ◌⊎◌, Some, List, sym, ap, ◌∙◌, subst, inl, inr, arith}
 use Rattle.std.specs.Prelude.{slice_get, slice_index}
 use Rattle.std.proofs.Math.Nat.{mul-le-mul}
 use Rattle.std.proofs.Math.Pow.{pow_mono}
@@ -9,7 +9,7 @@ use Rattle.std.proofs.lemmas.Bool.{cases_lt}
 use Rattle.pos_edge.specs.declared.scratch.ScratchDamage.{ScratchDamage}
 use Rattle.pos_lists.specs.TableLists.{TableLists, pairs_of, left_of, right_of}
 use Rattle.pos_laws.specs.Renumbering.{point_at}
-use Rattle.pos_relocate.specs.Gathering.{IsOneNumber}
+use Rattle.pos_relocate.specs.Gathering.{IsOneNumber, IsOutsideBelow}
 use Rattle.pos_points.specs.Points.{line_point, point_of}
 use Rattle.pos_points.proofs.PointLemmas.{above_lt, line_point-bound, line_point-is, pairs_below, point_of-is, point_of-symm}
 
@@ -79,3 +79,27 @@ pair_twice ts t i left right limit file number below damage first got same is_fi
       least = ap (λ (d : ScratchDamage). d.least) is ∙ ap (λ n. n + 1) (sym found);
       limit = ap (λ (d : ScratchDamage). d.limit) is;
     }
+
+-- a pair with a place that is not below the count of the table below
+pub pair_outside : (ts : TableLists) (t i left right place count file number : ℕ) (damage : ScratchDamage) → 2 ≤ t → slice_get (pairs_of ts (t - 1)) i ≡ Some (left, right) →
+    (place ≡ left) ⊎ (place ≡ right) → count ≤ place → file ≡ number → damage ≡ record { file = file; at = i; found = place; least = 0; limit = count } →
+    IsOutsideBelow ts (t - 2) i count number damage
+pair_outside ts t i left right place count file number damage first got which above is_file is =
+    let at = pair_places ts t i left right first got in
+    let found : damage.found ≡ place = ap (λ (d : ScratchDamage). d.found) is in
+    let limit : damage.limit ≡ count = ap (λ (d : ScratchDamage). d.limit) is in
+    record {
+      file_is = ap (λ (d : ScratchDamage). d.file) is ∙ is_file;
+      place = ap (λ (d : ScratchDamage). d.at) is;
+      found = elim which [
+        | inl left ↦ inl (found ∙ (left ∙ sym at.0))
+        | inr right ↦ inr (found ∙ (right ∙ sym at.1))
+      ];
+      least = ap (λ (d : ScratchDamage). d.least) is;
+      limit = limit;
+      above = omega arith;
+    }
+
+-- a point over the numbers that were read
+pub same_point : (point x y first second : ℕ) → point ≡ point_of x y → x ≡ first → y ≡ second → point ≡ point_of first second
+same_point point x y first second is a b = is ∙ (ap (λ n. point_of n y) a ∙ ap (point_of first) b)

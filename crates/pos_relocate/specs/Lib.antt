@@ -3,3 +3,4 @@ pub mod Choosing
 pub mod Gathering
 pub mod Levels
 pub mod Relocating
+pub mod Numbers

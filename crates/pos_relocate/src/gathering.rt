@@ -7,9 +7,11 @@ ghost use Rattle.pos_runs.specs.Runs.{TablesStand, pages_at};
 ghost use Rattle.pos_laws.specs.Renumbering.{point_at};
 ghost use Rattle.pos_relocate.specs.Passes.{AreBelow, AreListed};
 ghost use Rattle.pos_relocate.specs.Choosing.{Chooses};
+ghost use Rattle.pos_relocate.specs.Numbers.{numbers_of};
 ghost use Rattle.pos_relocate.specs.Gathering.{CanPoint, HasNoPoint, IsPointing, SameTables, SomeHasNoPoint};
 
 use crate::chosen::Chosen;
+use crate::numbers::Numbers;
 use crate::pointed::Pointed;
 use crate::{push, with_room};
 use pos_edge::{Disk, ScratchDamage, WorkFault};
@@ -22,20 +24,20 @@ pub(crate) fn gather_values<D: Disk, const K: u32>(
     alloc: Global,
     tables: &mut Tables<K>,
     disk: &mut D,
-) -> Result<Vec<u64>, WorkFault>
+) -> Result<Numbers, WorkFault>
     requires size { IsRecordSize K }
     requires stands { (ts : TableLists) × TablesStand K tables.old ts (D.view disk.old) }
     ensures reading { IsPointing result (D.view disk.old) (D.view disk.new) }
     ensures tables { OnOk result (SameTables K tables.old tables.new (D.view disk.old) (D.view disk.new)) }
-    ensures below { IfOk result (λ values. AreBelow (pages_at tables.old 0).count (2 ^ K) values.items) }
+    ensures below { IfOk result (λ values. AreBelow (pages_at tables.old 0).count (2 ^ K) (numbers_of values)) }
     ensures values { IfOk result (λ values. (ts : TableLists) → TablesStand K tables.old ts (D.view disk.old)
-        → (D.view disk.old).tells ≡ true → values.items ≡ ts.values) }
+        → (D.view disk.old).tells ≡ true → numbers_of values ≡ ts.values) }
     ensures no_damage { (damage : _) → IsErrOf result (WorkFault.Scratch damage) → ⊥ }
 {
-    let mut values = with_room(alloc, tables.count(1))?;
+    let mut values = Numbers::with_room(alloc, tables.count(1), 1 << K)?;
     for i in 0..tables.count(1) {
         let value = tables.value(disk, i)?;
-        push(&mut values, value)?;
+        values.push(value)?;
     }
     Ok(values)
 }
@@ -49,22 +51,22 @@ pub(crate) fn gather<P: Pointed, D: Disk, const K: u32>(
     tables: &mut Tables<K>,
     t: u8,
     chosen: &mut Chosen,
-    below: &[u64],
+    below: &Numbers,
     limit: u64,
     disk: &mut D,
 ) -> Result<Vec<P>, WorkFault>
-    requires can { CanPoint K t limit P.bound below.now tables.old (D.view disk.old) }
+    requires can { CanPoint K t limit P.bound (numbers_of below.now) tables.old (D.view disk.old) }
     requires chooses { (p : ℕ → Bool) × Chooses chosen.old (pages_at tables.old (t - 1)).count p (D.view disk.old) }
     ensures reading { IsPointing result (D.view disk.old) (D.view disk.new) }
     ensures tables { OnOk result (SameTables K tables.old tables.new (D.view disk.old) (D.view disk.new)) }
     ensures listed { IfOk result (λ entries. AreListed (pages_at tables.old (t - 1)).count (2 ^ (2 * K + 2)) (map P.pair entries.items)) }
     ensures gathered { IfOk result (λ entries. (ts : TableLists) (p : ℕ → Bool) → TablesStand K tables.old ts (D.view disk.old)
         → Chooses chosen.old (pages_at tables.old (t - 1)).count p (D.view disk.old) → (D.view disk.old).tells ≡ true
-        → AreGathered p (point_at ts (t - 2) (slice_index below.now)) (pages_at tables.old (t - 1)).count (map P.pair entries.items)) }
+        → AreGathered p (point_at ts (t - 2) (slice_index (numbers_of below.now))) (pages_at tables.old (t - 1)).count (map P.pair entries.items)) }
     ensures damage { (damage : _) → IsErrOf result (WorkFault.Scratch damage)
         → (ts : TableLists) (p : ℕ → Bool) → TablesStand K tables.old ts (D.view disk.old)
         → Chooses chosen.old (pages_at tables.old (t - 1)).count p (D.view disk.old) → (D.view disk.old).tells ≡ true
-        → SomeHasNoPoint ts (t - 2) p limit below.now tables.old damage }
+        → SomeHasNoPoint ts (t - 2) p limit (numbers_of below.now) tables.old damage }
 {
     let mut entries = with_room(alloc, tables.count(t))?;
     for i in 0..tables.count(t) {
@@ -78,13 +80,13 @@ fn gather_place<P: Pointed, D: Disk, const K: u32>(
     tables: &mut Tables<K>,
     t: u8,
     chosen: &mut Chosen,
-    below: &[u64],
+    below: &Numbers,
     limit: u64,
     i: u64,
     entries: &mut Vec<P>,
     disk: &mut D,
 ) -> Result<(), WorkFault>
-    requires can { CanPoint K t limit P.bound below.now tables.old (D.view disk.old) }
+    requires can { CanPoint K t limit P.bound (numbers_of below.now) tables.old (D.view disk.old) }
     requires there { i < (pages_at tables.old (t - 1)).count }
     requires chooses { (p : ℕ → Bool) × Chooses chosen.old (pages_at tables.old (t - 1)).count p (D.view disk.old) }
     ensures reading { IsPointing result (D.view disk.old) (D.view disk.new) }
@@ -95,12 +97,12 @@ fn gather_place<P: Pointed, D: Disk, const K: u32>(
         → AreListed (i + 1) (2 ^ (2 * K + 2)) (map P.pair entries.new.items)) }
     ensures gathered { OnOk result ((ts : TableLists) (p : ℕ → Bool) → TablesStand K tables.old ts (D.view disk.old)
         → Chooses chosen.old (pages_at tables.old (t - 1)).count p (D.view disk.old) → (D.view disk.old).tells ≡ true
-        → AreGathered p (point_at ts (t - 2) (slice_index below.now)) i (map P.pair entries.old.items)
-        → AreGathered p (point_at ts (t - 2) (slice_index below.now)) (i + 1) (map P.pair entries.new.items)) }
+        → AreGathered p (point_at ts (t - 2) (slice_index (numbers_of below.now))) i (map P.pair entries.old.items)
+        → AreGathered p (point_at ts (t - 2) (slice_index (numbers_of below.now))) (i + 1) (map P.pair entries.new.items)) }
     ensures damage { (damage : _) → IsErrOf result (WorkFault.Scratch damage)
         → (ts : TableLists) (p : ℕ → Bool) → TablesStand K tables.old ts (D.view disk.old)
         → Chooses chosen.old (pages_at tables.old (t - 1)).count p (D.view disk.old) → (D.view disk.old).tells ≡ true
-        → (p i ≡ true) × HasNoPoint ts (t - 2) i limit below.now tables.old damage }
+        → (p i ≡ true) × HasNoPoint ts (t - 2) i limit (numbers_of below.now) tables.old damage }
 {
     let is_chosen = chosen.has(disk, i)?;
     if !is_chosen {
@@ -115,33 +117,33 @@ fn gather_place<P: Pointed, D: Disk, const K: u32>(
 fn pointed_at<P: Pointed, D: Disk, const K: u32>(
     tables: &mut Tables<K>,
     t: u8,
-    below: &[u64],
+    below: &Numbers,
     limit: u64,
     i: u64,
     disk: &mut D,
 ) -> Result<P, WorkFault>
-    requires can { CanPoint K t limit P.bound below.now tables.old (D.view disk.old) }
+    requires can { CanPoint K t limit P.bound (numbers_of below.now) tables.old (D.view disk.old) }
     requires there { i < (pages_at tables.old (t - 1)).count }
     ensures reading { IsPointing result (D.view disk.old) (D.view disk.new) }
     ensures tables { OnOk result (SameTables K tables.old tables.new (D.view disk.old) (D.view disk.new)) }
     ensures place { IfOk result (λ entry. (P.pair entry).1 ≡ i) }
     ensures small { IfOk result (λ entry. (P.pair entry).0 < 2 ^ (2 * K + 2)) }
     ensures point { IfOk result (λ entry. (ts : TableLists) → TablesStand K tables.old ts (D.view disk.old)
-        → (D.view disk.old).tells ≡ true → (P.pair entry).0 ≡ point_at ts (t - 2) (slice_index below.now) i) }
+        → (D.view disk.old).tells ≡ true → (P.pair entry).0 ≡ point_at ts (t - 2) (slice_index (numbers_of below.now)) i) }
     ensures damage { (damage : _) → IsErrOf result (WorkFault.Scratch damage)
         → (ts : TableLists) → TablesStand K tables.old ts (D.view disk.old) → (D.view disk.old).tells ≡ true
-        → HasNoPoint ts (t - 2) i limit below.now tables.old damage }
+        → HasNoPoint ts (t - 2) i limit (numbers_of below.now) tables.old damage }
 {
     let (left, right) = tables.pair(disk, t, i)?;
-    let count = below.len() as u64;
+    let count = below.len();
     if left >= count {
         return Err(WorkFault::Scratch(outside(tables.file(t), i, left, count)));
     }
     if right >= count {
         return Err(WorkFault::Scratch(outside(tables.file(t), i, right, count)));
     }
-    let first = below[left as usize];
-    let second = below[right as usize];
+    let first = below.at(left);
+    let second = below.at(right);
     if first == second {
         return Err(WorkFault::Scratch(equal(tables.file(t - 1), right, second, limit)));
     }

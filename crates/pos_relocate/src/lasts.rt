@@ -9,10 +9,12 @@ ghost use Rattle.pos_runs.specs.Runs.{TablesStand, pages_at};
 ghost use Rattle.pos_laws.specs.Renumbering.{IsOneToOne, last_at};
 ghost use Rattle.pos_layout.specs.Writing.{IsStanding, OpensNext, SameFile};
 ghost use Rattle.pos_relocate.specs.Passes.{AreBelow, AreListed, HasEmptyTable, IsLastAdded, IsPass};
+ghost use Rattle.pos_relocate.specs.Numbers.{numbers_of};
 ghost use Rattle.pos_relocate.specs.Gathering.{CanNumber, IsPointing, IsLastAbove, SameTables};
 
 use crate::gathering::outside;
 use crate::numbering::add_sorted;
+use crate::numbers::Numbers;
 use crate::pointed::{Narrow, Pointed, Wide};
 use crate::{push, with_room};
 use pos_edge::{Disk, WorkFault};
@@ -26,21 +28,21 @@ use std::alloc::Global;
 pub(crate) fn last<D: Disk, const K: u32>(
     alloc: Global,
     tables: &mut Tables<K>,
-    places: &[u64],
+    places: &Numbers,
     writer: &mut PlotWriter,
     disk: &mut D,
 ) -> Result<(), WorkFault>
-    requires can { CanNumber K (2 ^ (2 * K + 1)) places.now tables.old (D.view disk.old) }
+    requires can { CanNumber K (2 ^ (2 * K + 1)) (numbers_of places.now) tables.old (D.view disk.old) }
     requires few { (pages_at tables.old 7).count ≤ 2 ^ (K + 1) }
     requires stands { IsStanding writer.old (D.view disk.old) }
     requires empty { HasEmptyTable K writer.old }
     ensures pass { IsPass writer.old.file result (D.view disk.old) (D.view disk.new) }
     ensures same { SameFile writer.old writer.new }
     ensures next { OnOk result (OpensNext writer.old writer.new) }
-    ensures ok { OnOk result (IsLastAdded K places.now tables.old writer.old writer.new (D.view disk.old) (D.view disk.new)) }
+    ensures ok { OnOk result (IsLastAdded K (numbers_of places.now) tables.old writer.old writer.new (D.view disk.old) (D.view disk.new)) }
     ensures never { (damage : _) → IsErrOf result (WorkFault.Scratch damage) → (ts : TableLists)
         → TablesStand K tables.old ts (D.view disk.old) → (D.view disk.old).tells ≡ true → IsSound ts K
-        → IsOneToOne ts 6 (slice_index places.now) → ⊥ }
+        → IsOneToOne ts 6 (slice_index (numbers_of places.now)) → ⊥ }
 {
     if K <= 31 {
         add_last::<Narrow, D, K>(alloc, tables, places, writer, disk)
@@ -53,23 +55,23 @@ pub(crate) fn last<D: Disk, const K: u32>(
 fn add_last<P: Pointed, D: Disk, const K: u32>(
     alloc: Global,
     tables: &mut Tables<K>,
-    places: &[u64],
+    places: &Numbers,
     writer: &mut PlotWriter,
     disk: &mut D,
 ) -> Result<(), WorkFault>
-    requires can { CanNumber K P.bound places.now tables.old (D.view disk.old) }
+    requires can { CanNumber K P.bound (numbers_of places.now) tables.old (D.view disk.old) }
     requires few { (pages_at tables.old 7).count ≤ 2 ^ (K + 1) }
     requires stands { IsStanding writer.old (D.view disk.old) }
     requires empty { HasEmptyTable K writer.old }
     ensures pass { IsPass writer.old.file result (D.view disk.old) (D.view disk.new) }
     ensures same { SameFile writer.old writer.new }
     ensures next { OnOk result (OpensNext writer.old writer.new) }
-    ensures ok { OnOk result (IsLastAdded K places.now tables.old writer.old writer.new (D.view disk.old) (D.view disk.new)) }
+    ensures ok { OnOk result (IsLastAdded K (numbers_of places.now) tables.old writer.old writer.new (D.view disk.old) (D.view disk.new)) }
     ensures never { (damage : _) → IsErrOf result (WorkFault.Scratch damage) → (ts : TableLists)
         → TablesStand K tables.old ts (D.view disk.old) → (D.view disk.old).tells ≡ true → IsSound ts K
-        → IsOneToOne ts 6 (slice_index places.now) → ⊥ }
+        → IsOneToOne ts 6 (slice_index (numbers_of places.now)) → ⊥ }
 {
-    let count = places.len() as u64;
+    let count = places.len();
     let entries = gather_last::<P, D, K>(alloc, tables, places, disk)?;
     add_sorted::<P, D, K>(entries, count, tables.file(8), writer, disk)?;
     Ok(())
@@ -79,23 +81,23 @@ fn add_last<P: Pointed, D: Disk, const K: u32>(
 fn gather_last<P: Pointed, D: Disk, const K: u32>(
     alloc: Global,
     tables: &mut Tables<K>,
-    places: &[u64],
+    places: &Numbers,
     disk: &mut D,
 ) -> Result<Vec<P>, WorkFault>
-    requires { CanNumber K P.bound places.now tables.old (D.view disk.old) }
+    requires { CanNumber K P.bound (numbers_of places.now) tables.old (D.view disk.old) }
     ensures reading { IsPointing result (D.view disk.old) (D.view disk.new) }
     ensures tables { OnOk result (SameTables K tables.old tables.new (D.view disk.old) (D.view disk.new)) }
-    ensures listed { IfOk result (λ entries. AreListed (length places.now) (2 ^ (2 * K + 2)) (map P.pair entries.items)) }
+    ensures listed { IfOk result (λ entries. AreListed (length (numbers_of places.now)) (2 ^ (2 * K + 2)) (map P.pair entries.items)) }
     ensures gathered { IfOk result (λ entries. (ts : TableLists) → TablesStand K tables.old ts (D.view disk.old)
         → (D.view disk.old).tells ≡ true → IsSound ts K
-        → AreGathered (λ i. true) (last_at ts K (slice_index places.now)) (length places.now) (map P.pair entries.items)) }
+        → AreGathered (λ i. true) (last_at ts K (slice_index (numbers_of places.now))) (length (numbers_of places.now)) (map P.pair entries.items)) }
     ensures damage { (damage : _) → IsErrOf result (WorkFault.Scratch damage) → (ts : TableLists)
         → TablesStand K tables.old ts (D.view disk.old) → (D.view disk.old).tells ≡ true
-        → (i : ℕ) × (i < length places.now) × IsLastAbove ts K i (pages_at tables.old 7).number damage }
+        → (i : ℕ) × (i < length (numbers_of places.now)) × IsLastAbove ts K i (pages_at tables.old 7).number damage }
 {
-    let mut entries = with_room(alloc, places.len() as u64)?;
+    let mut entries = with_room(alloc, places.len())?;
     for i in 0..places.len() {
-        let entry = numbered_at(tables, i as u64, places[i], disk)?;
+        let entry = numbered_at(tables, i, places.at(i), disk)?;
         push(&mut entries, entry)?;
     }
     Ok(entries)

@@ -14,6 +14,7 @@ mod gathering;
 mod lasts;
 mod levels;
 mod numbering;
+mod numbers;
 mod pointed;
 mod relocating;
 

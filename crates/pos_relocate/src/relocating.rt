@@ -7,12 +7,14 @@ ghost use Rattle.pos_laws.specs.Tables.{Describes};
 ghost use Rattle.pos_layout.specs.Writing.{SameFile};
 ghost use Rattle.pos_relocate.specs.Passes.{AreBelow, IsPass};
 ghost use Rattle.pos_relocate.specs.Gathering.{SameTables};
+ghost use Rattle.pos_relocate.specs.Numbers.{numbers_of};
 ghost use Rattle.pos_relocate.specs.Relocating.{AreAllUsed, AreLevelsAdded, AreRelocated, CanRelocate, IsSomethingTwice};
 
 use crate::chosen::Chosen;
 use crate::gathering::gather_values;
 use crate::lasts::last;
 use crate::levels::renumber;
+use crate::numbers::Numbers;
 use pos_edge::{Disk, WorkFault};
 use pos_layout::PlotWriter;
 use pos_marks::Marks;
@@ -64,13 +66,13 @@ fn renumber_levels<D: Disk, const K: u32>(
     m6: Marks,
     writer: &mut PlotWriter,
     disk: &mut D,
-) -> Result<Vec<u64>, WorkFault>
+) -> Result<Numbers, WorkFault>
     requires { CanRelocate K tables.old m2 m3 m4 m5 m6 writer.old (D.view disk.old) }
     ensures pass { IsPass writer.old.file result (D.view disk.old) (D.view disk.new) }
     ensures same { SameFile writer.old writer.new }
     ensures tables { OnOk result (SameTables K tables.old tables.new (D.view disk.old) (D.view disk.new)) }
-    ensures places { IfOk result (λ places. AreBelow (pages_at tables.old 6).count (pages_at tables.old 6).count places.items) }
-    ensures ok { IfOk result (λ places. AreLevelsAdded K 6 m2 m3 m4 m5 m6 places.items tables.old
+    ensures places { IfOk result (λ places. AreBelow (pages_at tables.old 6).count (pages_at tables.old 6).count (numbers_of places)) }
+    ensures ok { IfOk result (λ places. AreLevelsAdded K 6 m2 m3 m4 m5 m6 (numbers_of places) tables.old
         writer.old writer.new (D.view disk.old) (D.view disk.new)) }
     ensures damage { (damage : _) → IsErrOf result (WorkFault.Scratch damage) → (ts : TableLists)
         → TablesStand K tables.old ts (D.view disk.old) → (D.view disk.old).tells ≡ true → IsSound ts K
@@ -88,7 +90,7 @@ fn renumber_levels<D: Disk, const K: u32>(
         Chosen::Each,
     ] {
         places = renumber(alloc, tables, t, chosen, places, limit, writer, disk)?;
-        limit = places.len() as u64;
+        limit = places.len();
         t += 1;
     }
     Ok(places)

@@ -6,6 +6,7 @@ use Rattle.pos_runs.specs.Runs.{pages_at}
 use Rattle.pos_lists.specs.Numbering.{AreGathered}
 use Rattle.pos_laws.specs.Renumbering.{point_at}
 use Rattle.pos_relocate.specs.Passes.{AreListed}
+use Rattle.pos_relocate.specs.Numbers.{numbers_of}
 use Rattle.pos_relocate.proofs.GatheringLemmas.{gathering_done, gathering_exit, gathering_spent, gathering_then, reads_none, spent_no_damage}
 use Rattle.pos_relocate.proofs.GatheredLemmas.{can_now, chooses_now, chooses_of, gathered_next, gathered_none, some_no_point, GatheredSoFar}
 use Rattle.pos_relocate.proofs.gathering.gather.Goals as goal
@@ -13,8 +14,8 @@ use Rattle.pos_relocate.proofs.gathering.gather.Goals as goal
 pub loop-i-init : goal.loop-i-init
 loop-i-init g c =
     let v = g.D.Disk.view c.args.disk.now in
-    subst (λ (items : List g.row.P.Denot). GatheredSoFar g.row.K c.args.t c.args.limit g.P.Pointed.bound 0 c.args.below.now (map g.P.Pointed.pair items) c.args.chosen.now c.args.chosen.now c.args.tables.now c.args.tables.now v v)
-    (sym c.in_ok-entries.ensures.ok) (gathered_none g.row.K c.args.t c.args.limit g.P.Pointed.bound c.args.below.now c.args.chosen.now c.args.tables.now v c.requires.can c.requires.chooses)
+    subst (λ (items : List g.row.P.Denot). GatheredSoFar g.row.K c.args.t c.args.limit g.P.Pointed.bound 0 (numbers_of c.args.below.now) (map g.P.Pointed.pair items) c.args.chosen.now c.args.chosen.now c.args.tables.now c.args.tables.now v v)
+    (sym c.in_ok-entries.ensures.ok) (gathered_none g.row.K c.args.t c.args.limit g.P.Pointed.bound (numbers_of c.args.below.now) c.args.chosen.now c.args.tables.now v c.requires.can c.requires.chooses)
 
 pub returns-in_err-entries-clause-reading : goal.returns-in_err-entries-clause-reading
 returns-in_err-entries-clause-reading g c =
@@ -35,7 +36,7 @@ loop-i-preserved g c =
     let a = g.D.Disk.view c.args.disk.now in
     let b = g.D.Disk.view c.loop-i.disk in
     let step = c.in_ok-gather_place.ensures in
-    gathered_next k t c.args.limit g.P.Pointed.bound c.loop-i.i c.args.below.now xs c.args.chosen.now c.loop-i.chosen c.args.tables.now c.loop-i.tables a b c.loop-i.invariant
+    gathered_next k t c.args.limit g.P.Pointed.bound c.loop-i.i (numbers_of c.args.below.now) xs c.args.chosen.now c.loop-i.chosen c.args.tables.now c.loop-i.tables a b c.loop-i.invariant
     (map g.P.Pointed.pair c.gather_place.new.entries.items) c.gather_place.new.chosen c.gather_place.new.tables (g.D.Disk.view c.gather_place.new.disk)
     step.reading.only step.reading.quiet step.tables step.chosen step.listed step.gathered
 
@@ -48,10 +49,10 @@ gather_place-requires g c =
     let b = g.D.Disk.view c.loop-i.disk in (
       lit< tt,
       (
-        can_now k t c.args.limit g.P.Pointed.bound c.loop-i.i c.args.below.now xs c.args.chosen.now c.loop-i.chosen c.args.tables.now c.loop-i.tables a b c.loop-i.invariant,
+        can_now k t c.args.limit g.P.Pointed.bound c.loop-i.i (numbers_of c.args.below.now) xs c.args.chosen.now c.loop-i.chosen c.args.tables.now c.loop-i.tables a b c.loop-i.invariant,
         (
           let e = c.count-i-end.ensures in let l = c.loop-i-test.true in let n = c.loop-i.invariant.same.counts (t - 1) in omega arith,
-          chooses_now k t c.args.limit g.P.Pointed.bound c.loop-i.i c.args.below.now xs c.args.chosen.now c.loop-i.chosen c.args.tables.now c.loop-i.tables a b c.loop-i.invariant,
+          chooses_now k t c.args.limit g.P.Pointed.bound c.loop-i.i (numbers_of c.args.below.now) xs c.args.chosen.now c.loop-i.chosen c.args.tables.now c.loop-i.tables a b c.loop-i.invariant,
         ),
       ),
     )
@@ -76,8 +77,8 @@ returns-in_err-gather_place-clause-damage g c = λ damage is ts p stands chooses
     let b = g.D.Disk.view c.loop-i.disk in
     let was = c.loop-i.invariant in
     let found = c.in_err-gather_place.ensures.damage damage (ap (λ f. Err f) same) ts p (was.same.stand ts stands)
-    (chooses_of k t c.args.limit g.P.Pointed.bound c.loop-i.i c.args.below.now xs c.args.chosen.now c.loop-i.chosen c.args.tables.now c.loop-i.tables a b c.loop-i.invariant p chooses) (was.only.kept.tells ∙ told) in
-    some_no_point k t c.args.limit g.P.Pointed.bound c.loop-i.i c.args.below.now xs c.args.chosen.now c.loop-i.chosen c.args.tables.now c.loop-i.tables a b c.loop-i.invariant ts p damage
+    (chooses_of k t c.args.limit g.P.Pointed.bound c.loop-i.i (numbers_of c.args.below.now) xs c.args.chosen.now c.loop-i.chosen c.args.tables.now c.loop-i.tables a b c.loop-i.invariant p chooses) (was.only.kept.tells ∙ told) in
+    some_no_point k t c.args.limit g.P.Pointed.bound c.loop-i.i (numbers_of c.args.below.now) xs c.args.chosen.now c.loop-i.chosen c.args.tables.now c.loop-i.tables a b c.loop-i.invariant ts p damage
     (let e = c.count-i-end.ensures in let l = c.loop-i-test.true in omega arith) stands found
 
 pub returns-clause-reading : goal.returns-clause-reading
@@ -100,4 +101,4 @@ returns-clause-gathered g c = λ ts p stands chooses told.
     let l = c.loop-i-test.false in
     let m = c.loop-i.auto.i-end in
     let end : c.loop-i.i ≡ (pages_at c.args.tables.now (c.args.t - 1)).count = omega arith in
-    subst (λ (n : ℕ). AreGathered p (point_at ts (c.args.t - 2) (slice_index c.args.below.now)) n (map g.P.Pointed.pair c.loop-i.entries.items)) end (c.loop-i.invariant.gathered ts p stands chooses told)
+    subst (λ (n : ℕ). AreGathered p (point_at ts (c.args.t - 2) (slice_index (numbers_of c.args.below.now))) n (map g.P.Pointed.pair c.loop-i.entries.items)) end (c.loop-i.invariant.gathered ts p stands chooses told)

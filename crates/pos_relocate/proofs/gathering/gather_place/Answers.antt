@@ -5,6 +5,7 @@ use Rattle.pos_laws.specs.Renumbering.{point_at}
 use Rattle.std.specs.Prelude.{slice_index}
 use Rattle.pos_runs.specs.Runs.{pages_at}
 use Rattle.pos_runs.proofs.TablesLemmas.{tables-read}
+use Rattle.pos_relocate.specs.Numbers.{numbers_of}
 use Rattle.pos_relocate.proofs.GatheringLemmas.{can_beside, chooses_beside, gathered_passed, gathered_pushed, gathering_done, gathering_exit, gathering_spent, gathering_then, listed_passed, listed_pushed, reads_then, same_beside, same_then, spent_no_damage}
 use Rattle.pos_relocate.proofs.gathering.gather_place.Goals as goal
 
@@ -26,11 +27,11 @@ returns-then-not-is_chosen-clause-listed g c = listed_passed c.args.i (2 ^ (2 * 
 pub returns-then-not-is_chosen-clause-gathered : goal.returns-then-not-is_chosen-clause-gathered
 returns-then-not-is_chosen-clause-gathered g c = λ ts p stands chooses told was.
     let value = c.in_ok-is_chosen.ensures.value (pages_at c.args.tables.now (c.args.t - 1)).count p chooses told c.requires.there in
-    gathered_passed p (point_at ts (c.args.t - 2) (slice_index c.args.below.now)) c.args.i (map g.P.Pointed.pair c.args.entries.now.items) (sym value ∙ c.if-not-is_chosen.true) was
+    gathered_passed p (point_at ts (c.args.t - 2) (slice_index (numbers_of c.args.below.now))) c.args.i (map g.P.Pointed.pair c.args.entries.now.items) (sym value ∙ c.if-not-is_chosen.true) was
 
 pub pointed_at-requires : goal.pointed_at-requires
 pointed_at-requires g c =
-    (omega arith, (can_beside g.row.K c.args.t c.args.limit g.P.Pointed.bound c.args.below.now c.args.tables.now (g.D.Disk.view c.args.disk.now) (g.D.Disk.view c.has.new.disk) c.in_ok-is_chosen.ensures.reading.only c.requires.can, c.requires.there))
+    (omega arith, (can_beside g.row.K c.args.t c.args.limit g.P.Pointed.bound (numbers_of c.args.below.now) c.args.tables.now (g.D.Disk.view c.args.disk.now) (g.D.Disk.view c.has.new.disk) c.in_ok-is_chosen.ensures.reading.only c.requires.can, c.requires.there))
 
 pub returns-in_err-entry-clause-reading : goal.returns-in_err-entry-clause-reading
 returns-in_err-entry-clause-reading g c =
@@ -97,5 +98,5 @@ returns-clause-gathered g c = λ ts p stands chooses told was.
     let b = g.D.Disk.view c.has.new.disk in
     let only = c.in_ok-is_chosen.ensures.reading.only in
     let value = c.in_ok-is_chosen.ensures.value (pages_at c.args.tables.now (c.args.t - 1)).count p chooses told c.requires.there in
-    gathered_pushed g.P.Pointed.pair p (point_at ts (c.args.t - 2) (slice_index c.args.below.now)) c.args.i c.args.entries.now.items c.push.new.items.items c.in_ok-entry.entry c.in_ok-push.ensures.ok
+    gathered_pushed g.P.Pointed.pair p (point_at ts (c.args.t - 2) (slice_index (numbers_of c.args.below.now))) c.args.i c.args.entries.now.items c.push.new.items.items c.in_ok-entry.entry c.in_ok-push.ensures.ok
     (sym value ∙ c.if-not-is_chosen.false) (c.in_ok-entry.ensures.point ts (tables-read g.row.K c.args.tables.now ts a b only stands) (only.kept.tells ∙ told)) c.in_ok-entry.ensures.place was

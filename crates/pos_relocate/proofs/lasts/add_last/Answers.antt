@@ -5,6 +5,7 @@ use Rattle.pos_laws.specs.Renumbering.{firsts}
 use Rattle.pos_layout.specs.Layouts.{own}
 use Rattle.pos_layout.proofs.WorksLemmas.{stands_beside}
 use Rattle.pos_edge.specs.Frame.{Nothing}
+use Rattle.pos_relocate.specs.Numbers.{numbers_of}
 use Rattle.pos_relocate.proofs.PassLemmas.{pass_done, pass_exit, pass_then}
 use Rattle.pos_relocate.proofs.LastLemmas.{last_not_above}
 use Rattle.pos_relocate.proofs.LastTableLemmas.{gathering_pass, last_count, last_never, last_table, standing_kept, standing_reads}
@@ -52,7 +53,7 @@ returns-in_err-add_sorted-clause-never g c = λ damage is ts stands told sound a
     let found = c.in_err-add_sorted.ensures.damage damage (ap (λ f. Err f) same) in
     let count = last_count g.row.K c.args.tables.now ts (g.D.Disk.view c.args.disk.now) stands in
     let long = c.requires.can.places_below.as_long in
-    last_never ts g.row.K _ c.args.places.now (map g.P.Pointed.pair c.in_ok-entries.entries.items) _ _ damage (long ∙ sym count)
+    last_never ts g.row.K _ (numbers_of c.args.places.now) (map g.P.Pointed.pair c.in_ok-entries.entries.items) _ _ damage (long ∙ sym count)
     (λ i l. c.requires.can.places_below.below i (omega arith)) apart c.in_ok-entries.ensures.listed (c.in_ok-entries.ensures.gathered ts stands told sound) found
 
 pub returns-clause-pass : goal.returns-clause-pass
@@ -78,5 +79,5 @@ returns-clause-ok g c =
       seventh = λ ts stands told sound.
           let count = last_count g.row.K c.args.tables.now ts a stands in
           let long = c.requires.can.places_below.as_long in
-          last_table ts g.row.K c.args.places.now (map g.P.Pointed.pair c.in_ok-entries.entries.items) pointed (long ∙ sym count) (first.gathered ts stands told sound) table.permuted table.rise;
+          last_table ts g.row.K (numbers_of c.args.places.now) (map g.P.Pointed.pair c.in_ok-entries.entries.items) pointed (long ∙ sym count) (first.gathered ts stands told sound) table.permuted table.rise;
     }

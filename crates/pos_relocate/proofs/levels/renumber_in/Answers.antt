@@ -1,11 +1,9 @@
-use Rattle.std.proofs.Common.{◌≡◌, ℕ, ◌+◌, ◌-◌, ◌*◌, ◌/◌, ◌^◌, ◌≤◌, map, List, Err, Ok, sym, ap, ◌∙◌, true, subst, inl, inr, lit<}
-use Rattle.std.specs.Prelude.{slice_index}
+use Rattle.std.proofs.Common.{◌≡◌, ℕ, ◌+◌, ◌-◌, ◌*◌, ◌/◌, ◌^◌, ◌≤◌, map, Err, Ok, sym, ap, ◌∙◌, subst, inl, inr, lit<}
 use Rattle.std.proofs.lemmas.Result.{err_from_is_err_and}
 use Rattle.pos_edge.specs.declared.scratch.WorkFault.TheVariants.{Scratch}
 use Rattle.pos_runs.specs.Runs.{pages_at}
 use Rattle.pos_relocate.specs.Passes.{AreBelow, AreListed}
-use Rattle.pos_relocate.specs.Gathering.{CanPoint, SomeHasNoPoint}
-use Rattle.pos_relocate.specs.Levels.{IsLevelAdded, IsPointTwice}
+use Rattle.pos_relocate.specs.Numbers.{numbers_of}
 use Rattle.pos_relocate.proofs.PassLemmas.{pass_done, pass_exit, pass_then}
 use Rattle.pos_relocate.proofs.GatheringLemmas.{same_then}
 use Rattle.pos_relocate.proofs.LastTableLemmas.{gathering_pass, standing_kept, standing_reads}
@@ -14,21 +12,21 @@ use Rattle.pos_relocate.proofs.levels.renumber_in.Goals as goal
 
 pub gather-requires : goal.gather-requires
 gather-requires g c =
-    let can = subst (λ (ns : List ℕ). CanPoint g.row.K c.args.t c.args.limit (c.args.limit * (c.args.limit - 1) / 2) ns c.args.tables.now (g.D.Disk.view c.args.disk.now)) (sym c.deref.ensures.value) c.requires.can.can in
-    (lit< tt, (can_wider g.row.K c.args.t c.args.limit (c.args.limit * (c.args.limit - 1) / 2) g.P.Pointed.bound c.deref.result.now c.args.tables.now (g.D.Disk.view c.args.disk.now) c.requires.exact can, c.requires.can.chooses))
+    let can = c.requires.can.can in
+    (lit< tt, (can_wider g.row.K c.args.t c.args.limit (c.args.limit * (c.args.limit - 1) / 2) g.P.Pointed.bound (numbers_of c.args.below) c.args.tables.now (g.D.Disk.view c.args.disk.now) c.requires.exact can, c.requires.can.chooses))
 
-pub number-requires-clause-listed : goal.number-requires-clause-listed
-number-requires-clause-listed g c =
+pub number_least-requires-clause-listed : goal.number_least-requires-clause-listed
+number_least-requires-clause-listed g c =
     let count : c.count-count.result ≡ (pages_at c.args.tables.now (c.args.t - 1)).count = c.count-count.ensures ∙ c.in_ok-entries.ensures.tables.counts (c.args.t - 1) in
     subst (λ (n : ℕ). AreListed n (2 ^ (2 * g.row.K + 2)) (map g.P.Pointed.pair c.in_ok-entries.entries.items)) (sym count) c.in_ok-entries.ensures.listed
 
-pub number-requires-clause-few : goal.number-requires-clause-few
-number-requires-clause-few g c =
+pub number_least-requires-clause-few : goal.number_least-requires-clause-few
+number_least-requires-clause-few g c =
     let count : c.count-count.result ≡ (pages_at c.args.tables.now (c.args.t - 1)).count = c.count-count.ensures ∙ c.in_ok-entries.ensures.tables.counts (c.args.t - 1) in
     subst (λ (n : ℕ). n ≤ 2 ^ (g.row.K + 1)) (sym count) c.requires.can.few
 
-pub number-requires-clause-stands : goal.number-requires-clause-stands
-number-requires-clause-stands g c = standing_reads c.args.writer.now (g.D.Disk.view c.args.disk.now) (g.D.Disk.view c.gather.new.disk) c.in_ok-entries.ensures.reading.only c.requires.can.standing
+pub number_least-requires-clause-stands : goal.number_least-requires-clause-stands
+number_least-requires-clause-stands g c = standing_reads c.args.writer.now (g.D.Disk.view c.args.disk.now) (g.D.Disk.view c.gather.new.disk) c.in_ok-entries.ensures.reading.only c.requires.can.standing
 
 pub returns-in_err-entries-clause-pass : goal.returns-in_err-entries-clause-pass
 returns-in_err-entries-clause-pass g c =
@@ -45,7 +43,7 @@ returns-in_err-entries-clause-damage g c = λ damage is ts p stands chooses told
     let e = err_from_is_err_and c.from_residual.result c.from_residual.ensures.1 in
     let same : c.in_err-entries.field-0.0 ≡ Scratch damage = (let x = e.1 in let y = e.2 in cc) in
     let found = c.in_err-entries.ensures.damage damage (ap (λ f. Err f) same) ts p stands chooses told in
-    inl (subst (λ (ns : List ℕ). SomeHasNoPoint ts (c.args.t - 2) p c.args.limit ns c.args.tables.now damage) c.deref.ensures.value found)
+    inl found
 
 pub returns-in_err-places-clause-pass : goal.returns-in_err-places-clause-pass
 returns-in_err-places-clause-pass g c =
@@ -54,7 +52,7 @@ returns-in_err-places-clause-pass g c =
     let t = c.args.t in
     let a = g.D.Disk.view c.args.disk.now in
     let b = g.D.Disk.view c.gather.new.disk in
-    let d = g.D.Disk.view c.number.new.disk in
+    let d = g.D.Disk.view c.number_least.new.disk in
     let file = c.args.writer.now.file in
     let first = c.in_ok-entries.ensures.reading in
     pass_exit file c.from_residual-in_err-places.result e.0 c.in_err-places.field-0.0 a d e.1 e.2
@@ -70,9 +68,8 @@ returns-in_err-places-clause-damage g c = λ damage is ts p stands chooses told.
     let t = c.args.t in
     let first = c.in_ok-entries.ensures in
     let file : c.file.result ≡ (pages_at c.args.tables.now (t - 1)).number = c.file.ensures ∙ first.tables.numbers (t - 1) in
-    inr (subst (λ (ns : List ℕ). IsPointTwice ts k (t - 2) (λ i. p i ≡ true) (slice_index ns) (pages_at c.args.tables.now (t - 1)).number damage) c.deref.ensures.value
-    (point_twice ts k (t - 2) (pages_at c.args.tables.now (t - 1)).count (2 ^ (2 * k + 2)) p c.deref.result.now (map g.P.Pointed.pair c.in_ok-entries.entries.items) c.file.result _ damage
-    (level_count k t c.args.tables.now ts (g.D.Disk.view c.args.disk.now) can.first can.last stands) first.listed (first.gathered ts p stands chooses told) found file))
+    inr (point_twice ts k (t - 2) (pages_at c.args.tables.now (t - 1)).count (2 ^ (2 * k + 2)) p (numbers_of c.args.below) (map g.P.Pointed.pair c.in_ok-entries.entries.items) c.file.result _ damage
+    (level_count k t c.args.tables.now ts (g.D.Disk.view c.args.disk.now) can.first can.last stands) first.listed (first.gathered ts p stands chooses told) found file)
 
 pub returns-clause-pass : goal.returns-clause-pass
 returns-clause-pass g c =
@@ -80,7 +77,7 @@ returns-clause-pass g c =
     let t = c.args.t in
     let a = g.D.Disk.view c.args.disk.now in
     let b = g.D.Disk.view c.gather.new.disk in
-    let d = g.D.Disk.view c.number.new.disk in
+    let d = g.D.Disk.view c.number_least.new.disk in
     let file = c.args.writer.now.file in
     let first = c.in_ok-entries.ensures.reading in
     let whole = pass_then file (Ok c.in_ok-places.places) a b d c.requires.can.standing.1.keeps.file.bytes.live (standing_kept c.args.writer.now a b first.only c.requires.can.standing) first.quiet c.in_ok-places.ensures.pass in
@@ -92,7 +89,7 @@ returns-clause-tables g c =
     let t = c.args.t in
     let a = g.D.Disk.view c.args.disk.now in
     let b = g.D.Disk.view c.gather.new.disk in
-    let d = g.D.Disk.view c.number.new.disk in
+    let d = g.D.Disk.view c.number_least.new.disk in
     let file = c.args.writer.now.file in
     let same = c.in_ok-entries.ensures.tables in
     let out = outside_now k file c.args.tables.now c.gather.new.tables a b b same c.in_ok-entries.ensures.reading.only.ids c.requires.can.outside in
@@ -101,7 +98,7 @@ returns-clause-tables g c =
 pub returns-clause-places : goal.returns-clause-places
 returns-clause-places g c =
     let count : c.count-count.result ≡ (pages_at c.args.tables.now (c.args.t - 1)).count = c.count-count.ensures ∙ c.in_ok-entries.ensures.tables.counts (c.args.t - 1) in
-    subst (λ (n : ℕ). AreBelow n n c.in_ok-places.places.items) count c.in_ok-places.ensures.places
+    subst (λ (n : ℕ). AreBelow n n (numbers_of c.in_ok-places.places)) count c.in_ok-places.ensures.places
 
 pub returns-clause-ok : goal.returns-clause-ok
 returns-clause-ok g c =
@@ -109,9 +106,8 @@ returns-clause-ok g c =
     let t = c.args.t in
     let a = g.D.Disk.view c.args.disk.now in
     let b = g.D.Disk.view c.gather.new.disk in
-    let d = g.D.Disk.view c.number.new.disk in
+    let d = g.D.Disk.view c.number_least.new.disk in
     let file = c.args.writer.now.file in
-    let can = subst (λ (ns : List ℕ). CanPoint g.row.K c.args.t c.args.limit (c.args.limit * (c.args.limit - 1) / 2) ns c.args.tables.now (g.D.Disk.view c.args.disk.now)) (sym c.deref.ensures.value) c.requires.can.can in
-    subst (λ (ns : List ℕ). IsLevelAdded k t c.args.chosen ns c.in_ok-places.places.items c.args.tables.now c.args.writer.now c.number.new.writer a d) c.deref.ensures.value
-    (level_added k t c.args.limit c.args.chosen c.deref.result.now c.in_ok-places.places.items (map g.P.Pointed.pair c.in_ok-entries.entries.items) c.args.tables.now c.args.writer.now c.number.new.writer a b d
-    can c.in_ok-entries.ensures.reading.only c.in_ok-places.ensures.ok c.in_ok-entries.ensures.gathered)
+    let can = c.requires.can.can in
+    level_added k t c.args.limit c.args.chosen (numbers_of c.args.below) (numbers_of c.in_ok-places.places) (map g.P.Pointed.pair c.in_ok-entries.entries.items) c.args.tables.now c.args.writer.now c.number_least.new.writer a b d
+    can c.in_ok-entries.ensures.reading.only c.in_ok-places.ensures.ok c.in_ok-entries.ensures.gathered

@@ -1,12 +1,10 @@
-use Rattle.std.proofs.Common.{◌≡◌, ◌^◌, ◌*◌, ◌+◌, ℕ, List, Err, sym, ap, ◌∙◌, subst, lit<}
-use Rattle.std.specs.Prelude.{slice_index}
+use Rattle.std.proofs.Common.{◌≡◌, ℕ, Err, ap, ◌∙◌, subst, lit<}
 use Rattle.std.proofs.lemmas.Result.{err_from_is_err_and}
 use Rattle.pos_edge.specs.declared.scratch.WorkFault.TheVariants.{Scratch}
-use Rattle.pos_laws.specs.Renumbering.{IsOneToOne}
 use Rattle.pos_laws.proofs.Sound.{described_is_sound}
 use Rattle.pos_relocate.specs.Passes.{IsLastAdded, IsPass}
-use Rattle.pos_relocate.specs.Gathering.{CanNumber}
 use Rattle.pos_relocate.specs.Relocating.{AreRelocated}
+use Rattle.pos_relocate.specs.Numbers.{numbers_of}
 use Rattle.pos_relocate.proofs.PassLemmas.{on_ok, pass_exit, pass_then}
 use Rattle.pos_relocate.proofs.LevelsLemmas.{added_stands, last_apart, last_can, last_few, never_twice, relocated, same_file_then, six_few}
 use Rattle.pos_relocate.proofs.relocating.relocate_tables.Goals as goal
@@ -40,8 +38,7 @@ last-requires g c =
     let few = six_few k c.args.m2 c.args.m3 c.args.m4 c.args.m5 c.args.m6 c.args.tables c.args.writer.now a c.requires in (
       lit< tt,
       (
-        subst (λ (ns : List ℕ). CanNumber k (2 ^ (2 * k + 1)) ns c.renumber_levels.new.tables b) (sym c.deref.ensures.value)
-            (last_can k c.in_ok-places.places.items c.args.tables c.renumber_levels.new.tables a b c.requires.size c.requires.stands few got.tables got.places),
+        last_can k (numbers_of c.in_ok-places.places) c.args.tables c.renumber_levels.new.tables a b c.requires.size c.requires.stands few got.tables got.places,
         (
           last_few k c.args.tables c.renumber_levels.new.tables a b c.requires.stands few got.tables,
           (
@@ -71,26 +68,26 @@ returns-clause-ok g c =
     let b = g.D.Disk.view c.renumber_levels.new.disk in
     let d = g.D.Disk.view c.last.new.disk in
     let got = c.in_ok-places.ensures in
-    let places = c.in_ok-places.places.items in
-    on_ok (IsLastAdded k c.deref.result.now c.renumber_levels.new.tables c.renumber_levels.new.writer c.last.new.writer b d)
+    let places = numbers_of c.in_ok-places.places in
+    on_ok (IsLastAdded k (numbers_of c.in_ok-places.places) c.renumber_levels.new.tables c.renumber_levels.new.writer c.last.new.writer b d)
     (AreRelocated k c.args.tables c.args.m2 c.args.m3 c.args.m4 c.args.m5 c.args.m6 c.args.writer.now c.last.new.writer a d) c.last.result
     (λ added. relocated k c.args.m2 c.args.m3 c.args.m4 c.args.m5 c.args.m6 places c.args.tables c.renumber_levels.new.tables c.args.writer.now c.renumber_levels.new.writer c.last.new.writer a b d
     c.requires.begun.count got.pass.writes got.tables got.ok
-    (subst (λ (ns : List ℕ). IsLastAdded k ns c.renumber_levels.new.tables c.renumber_levels.new.writer c.last.new.writer b d) c.deref.ensures.value added)) c.last.ensures.ok
+    added) c.last.ensures.ok
 
 pub returns-clause-damage : goal.returns-clause-damage
 returns-clause-damage g c = λ damage is ts stands told sound used.
     let got = c.in_ok-places.ensures in
     let numbered = got.ok.numbered ts stands told sound used in
-    let apart = last_apart ts c.in_ok-places.places.items got.ok.lists numbered in
+    let apart = last_apart ts (numbers_of c.in_ok-places.places) got.ok.lists numbered in
     absurd (c.last.ensures.never damage is ts (got.tables.stand ts stands) (got.pass.writes.kept.frame.tells ∙ told) sound
-    (subst (λ (ns : List ℕ). IsOneToOne ts 6 (slice_index ns)) (sym c.deref.ensures.value) apart))
+    apart)
 
 pub returns-clause-never : goal.returns-clause-never
 returns-clause-never g c = λ damage is ts id stands told described used.
     let got = c.in_ok-places.ensures in
     let sound = described_is_sound ts id g.row.K described in
     let numbered = got.ok.numbered ts stands told sound used in
-    let apart = last_apart ts c.in_ok-places.places.items got.ok.lists numbered in
+    let apart = last_apart ts (numbers_of c.in_ok-places.places) got.ok.lists numbered in
     c.last.ensures.never damage is ts (got.tables.stand ts stands) (got.pass.writes.kept.frame.tells ∙ told) sound
-    (subst (λ (ns : List ℕ). IsOneToOne ts 6 (slice_index ns)) (sym c.deref.ensures.value) apart)
+    apart

@@ -1,8 +1,9 @@
-use Rattle.std.proofs.Common.{◌≡◌, ◌^◌, ◌%◌, ◌*◌, ℕ, length, Err, refl, ap, ◌∙◌, subst, arith, lit<}
+use Rattle.std.proofs.Common.{◌≡◌, ◌^◌, ◌%◌, ◌*◌, ℕ, length, Err, refl, ap, subst, arith, lit<}
 use Rattle.std.proofs.lemmas.Result.{err_from_is_err_and}
 use Rattle.std.specs.Array.Iter.{array_into_iter_items}
 use Rattle.pos_edge.specs.declared.scratch.WorkFault.TheVariants.{Scratch}
 use Rattle.pos_relocate.specs.Passes.{IsPass}
+use Rattle.pos_relocate.specs.Numbers.{numbers_of}
 use Rattle.pos_relocate.proofs.PassLemmas.{ok_no_fault, pass_done, pass_exit, pass_then}
 use Rattle.pos_relocate.proofs.LastTableLemmas.{gathering_pass}
 use Rattle.pos_relocate.proofs.LevelsLemmas.{LevelsSoFar, levels_below, levels_can, levels_done, levels_next, levels_none, levels_stopped, limit_of_values, same_file_then, turn_fits, turn_grown, turn_next, turn_up}
@@ -35,7 +36,7 @@ loop-chosen-init g c =
     record {
       left = c.into_iter-chosen-iterator.ensures.into_iter_gives.0;
       turn = refl;
-      so_far = levels_none k (1 * 2 ^ k % 2 ^ 64) c.args.m2 c.args.m3 c.args.m4 c.args.m5 c.args.m6 c.in_ok-places.places.items c.args.tables.now c.gather_values.new.tables c.args.writer.now
+      so_far = levels_none k (1 * 2 ^ k % 2 ^ 64) c.args.m2 c.args.m3 c.args.m4 c.args.m5 c.args.m6 (numbers_of c.in_ok-places.places) c.args.tables.now c.gather_values.new.tables c.args.writer.now
           (g.D.Disk.view c.args.disk.now) (g.D.Disk.view c.gather_values.new.disk) (limit_of_values k c.requires.size.1) c.requires got.reading.only got.reading.quiet got.tables got.below got.values;
     }
 
@@ -47,7 +48,7 @@ renumber-requires g c =
     let l = c.loop-chosen in
     let turn = turn_next c.args.m2 c.args.m3 c.args.m4 c.args.m5 c.args.m6 l.yielded (array_into_iter_items l.chosen-iterator) c.in-Some.chosen (array_into_iter_items c.next.new.self) l.invariant.left c.in-Some.ensures.steps in (
       lit< tt,
-      levels_can g.row.K (length l.yielded) l.limit c.args.m2 c.args.m3 c.args.m4 c.args.m5 c.args.m6 l.places.items c.args.tables.now l.tables c.args.writer.now l.writer
+      levels_can g.row.K (length l.yielded) l.limit c.args.m2 c.args.m3 c.args.m4 c.args.m5 c.args.m6 (numbers_of l.places) c.args.tables.now l.tables c.args.writer.now l.writer
           (g.D.Disk.view c.args.disk.now) (g.D.Disk.view l.disk) l.invariant.so_far l.t c.in-Some.chosen l.invariant.turn turn.0 turn.1,
     )
 
@@ -76,7 +77,7 @@ returns-in_err-places-2-clause-damage g c = λ damage is ts stands told sound us
     let same : c.in_err-places-2.field-0.0 ≡ Scratch damage = (let x = e.1 in let y = e.2 in cc) in
     let l = c.loop-chosen in
     let turn = turn_next c.args.m2 c.args.m3 c.args.m4 c.args.m5 c.args.m6 l.yielded (array_into_iter_items l.chosen-iterator) c.in-Some.chosen (array_into_iter_items c.next.new.self) l.invariant.left c.in-Some.ensures.steps in
-    levels_stopped g.row.K (length l.yielded) l.limit c.args.m2 c.args.m3 c.args.m4 c.args.m5 c.args.m6 l.places.items c.args.tables.now l.tables c.args.writer.now l.writer
+    levels_stopped g.row.K (length l.yielded) l.limit c.args.m2 c.args.m3 c.args.m4 c.args.m5 c.args.m6 (numbers_of l.places) c.args.tables.now l.tables c.args.writer.now l.writer
     (g.D.Disk.view c.args.disk.now) (g.D.Disk.view l.disk) l.invariant.so_far l.t c.in-Some.chosen damage ts l.invariant.turn turn.0 turn.1
     (c.in_err-places-2.ensures.damage damage (ap (λ f. Err f) same) ts) stands told sound used
 
@@ -99,11 +100,11 @@ loop-chosen-preserved g c =
     record {
       left = turn.2;
       turn = turn_up l.t l.yielded c.in-Some.chosen l.invariant.turn;
-      so_far = subst (λ (m : ℕ). LevelsSoFar k m c.len-limit.result c.args.m2 c.args.m3 c.args.m4 c.args.m5 c.args.m6 c.in_ok-places-2.places.items c.args.tables.now c.renumber.new.tables c.args.writer.now
+      so_far = subst (λ (m : ℕ). LevelsSoFar k m c.len-limit.result c.args.m2 c.args.m3 c.args.m4 c.args.m5 c.args.m6 (numbers_of c.in_ok-places-2.places) c.args.tables.now c.renumber.new.tables c.args.writer.now
           c.renumber.new.writer a d) (turn_grown l.yielded c.in-Some.chosen)
-          (levels_next k (length l.yielded) l.limit c.args.m2 c.args.m3 c.args.m4 c.args.m5 c.args.m6 l.places.items c.args.tables.now l.tables c.args.writer.now l.writer
-          a (g.D.Disk.view l.disk) l.invariant.so_far l.t c.len-limit.result c.in-Some.chosen c.in_ok-places-2.places.items c.renumber.new.tables c.renumber.new.writer d l.invariant.turn turn.0 turn.1
-          (c.len-limit.ensures ∙ c.in_ok-places-2.places.ok.0) got.pass.writes got.pass.quiet got.tables got.same got.next got.places got.ok);
+          (levels_next k (length l.yielded) l.limit c.args.m2 c.args.m3 c.args.m4 c.args.m5 c.args.m6 (numbers_of l.places) c.args.tables.now l.tables c.args.writer.now l.writer
+          a (g.D.Disk.view l.disk) l.invariant.so_far l.t c.len-limit.result c.in-Some.chosen (numbers_of c.in_ok-places-2.places) c.renumber.new.tables c.renumber.new.writer d l.invariant.turn turn.0 turn.1
+          c.len-limit.ensures got.pass.writes got.pass.quiet got.tables got.same got.next got.places got.ok);
     }
 
 pub returns-clause-pass : goal.returns-clause-pass
@@ -118,13 +119,13 @@ returns-clause-tables g c = c.loop-chosen.invariant.so_far.same
 pub returns-clause-places : goal.returns-clause-places
 returns-clause-places g c =
     let l = c.loop-chosen in
-    levels_below g.row.K l.limit c.args.m2 c.args.m3 c.args.m4 c.args.m5 c.args.m6 l.places.items c.args.tables.now l.tables c.args.writer.now l.writer
+    levels_below g.row.K l.limit c.args.m2 c.args.m3 c.args.m4 c.args.m5 c.args.m6 (numbers_of l.places) c.args.tables.now l.tables c.args.writer.now l.writer
     (g.D.Disk.view c.args.disk.now) (g.D.Disk.view l.disk) l.yielded (array_into_iter_items l.chosen-iterator) l.invariant.left c.in-None.ensures.steps.0 l.invariant.so_far
 
 pub returns-clause-ok : goal.returns-clause-ok
 returns-clause-ok g c =
     let l = c.loop-chosen in
-    levels_done g.row.K l.limit c.args.m2 c.args.m3 c.args.m4 c.args.m5 c.args.m6 l.places.items c.args.tables.now l.tables c.args.writer.now l.writer
+    levels_done g.row.K l.limit c.args.m2 c.args.m3 c.args.m4 c.args.m5 c.args.m6 (numbers_of l.places) c.args.tables.now l.tables c.args.writer.now l.writer
     (g.D.Disk.view c.args.disk.now) (g.D.Disk.view l.disk) l.yielded (array_into_iter_items l.chosen-iterator) l.invariant.left c.in-None.ensures.steps.0 l.invariant.so_far
 
 pub returns-clause-damage : goal.returns-clause-damage
