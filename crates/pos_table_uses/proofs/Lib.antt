@@ -1,1 +1,2 @@
 mod TakingLemmas
+mod ReadingLemmas

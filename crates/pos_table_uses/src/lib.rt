@@ -1,6 +1,6 @@
 //! Uses of the calls that make tables and prune them, by a caller of another crate: how many entries tables have, what plain
-//! loops over all pairs find, and the places that are kept of table 6 beside the pairs of table 7. It shows what
-//! a caller pays who reads the tables and their kept places in turn.
+//! loops over all pairs find, and the places that are kept of tables 2 to 6 beside those that plain loops reach from table 7.
+//! It shows what a caller pays who reads the tables and their kept places in turn.
 //! Source: this project's own.
 #![tactic(auto)]
 

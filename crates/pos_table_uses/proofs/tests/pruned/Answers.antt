@@ -1,33 +1,62 @@
-use Rattle.std.proofs.Common.{◌≡◌, ◌<◌, ◌≤◌, length, sym, ap, ◌∙◌, arith}
-use Rattle.pos_marks.proofs.MarkLemmas.{marked_reads}
-use Rattle.pos_prune.proofs.PassLemmas.{entries_count}
+use Rattle.std.proofs.Common.{◌<◌, sym, ◌∙◌, arith}
+use Rattle.pos_edge.specs.Frame.{Nothing}
+use Rattle.pos_edge.proofs.ScratchWorkLemmas.{work_beside}
 use Rattle.pos_table_uses.proofs.tests.pruned.Goals as goal
 
 -- numbers, found where nothing else is known
 size : 640 < 9223372036854775808
 size = omega arith
 
-fifth : 5 ≤ 6
-fifth = omega arith
+wide : 1240 < 9223372036854775808
+wide = omega arith
 
-pub named_by_table_7-requires : goal.named_by_table_7-requires
-named_by_table_7-requires g c =
-    let ts = c.requires.stands in
-    let kept = c.in_ok-kept.ensures.kept ts.0 ts.1 ts.2 in
-    (size, (c.requires.size, (ts.0, kept.tables)))
+pub prune-requires : goal.prune-requires
+prune-requires g c =
+    let a = g.D.Disk.view c.args.disk.now in
+    let b = g.D.Disk.view c.find_reached.new.disk in
+    let read = c.in_ok-found.ensures.read in
+    let ts = c.requires.stands in (
+      size,
+      (
+        wide,
+        (
+          c.requires.size,
+          (
+            c.requires.room,
+            (
+              (work_beside Nothing Nothing c.args.scratch.now a b read.only.kept read.only.ids).stands c.requires.files,
+              (
+                λ file is. c.requires.left file (is.0, is.1, is.2 ∙ read.lists.file is.0),
+                (ts.0, read.stands ts.0 ts.1, λ told. ts.2 (sym read.only.kept.tells ∙ told)),
+              ),
+            ),
+          ),
+        ),
+      ),
+    )
 
-pub differing-requires : goal.differing-requires
-differing-requires g c =
+pub all_compared-requires : goal.all_compared-requires
+all_compared-requires g c =
+    let found = c.in_ok-found.ensures in
+    let count = c.in_ok-kept.ensures.counts in
+    let read = found.read in
     let ts = c.requires.stands in
-    let v1 = g.D.Disk.view c.prune.new.disk in
-    let v2 = g.D.Disk.view c.named_by_table_7.new.disk in
-    let kept = c.in_ok-kept.ensures.kept ts.0 ts.1 ts.2 in
-    let marks = kept.of_table_6 in
-    let got = c.in_ok-named.ensures in
-    record {
-      stands = (marks.marks.0, marked_reads c.in_ok-kept.kept.m6 marks.marks.0 v1 v2 got.only marks.marks.1);
-      sealed = marks.sealed;
-      places =
-          marks.places
-          ∙ (entries_count g.row.K c.in_ok-kept.kept.tables ts.0 v1 5 fifth kept.tables ∙ (sym got.count ∙ sym (ap length c.deref.ensures.value)));
-    }
+    let kept = c.in_ok-kept.ensures.kept ts.0 (read.stands ts.0 ts.1) (λ told. ts.2 (sym read.only.kept.tells ∙ told)) in (
+      wide,
+      (
+        (c.prune.new.scratch, ts.0, kept),
+        (
+          found.of_table_2 ∙ (sym (read.lists.count 1) ∙ sym (count 1)),
+          (
+            found.of_table_3 ∙ (sym (read.lists.count 2) ∙ sym (count 2)),
+            (
+              found.of_table_4 ∙ (sym (read.lists.count 3) ∙ sym (count 3)),
+              (
+                found.of_table_5 ∙ (sym (read.lists.count 4) ∙ sym (count 4)),
+                found.of_table_6 ∙ (sym (read.lists.count 5) ∙ sym (count 5)),
+              ),
+            ),
+          ),
+        ),
+      ),
+    )
