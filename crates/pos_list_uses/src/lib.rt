@@ -3,7 +3,7 @@
 //! line of proof for each.
 //!
 //! The tests try each kind of record at four sizes, lists of any number of pages and each failing call of a list's life, and
-//! marked places at both ends of a page.
+//! marked places at both ends of a page and on three pages.
 //! Source: this project's own.
 #![tactic(auto)]
 
@@ -17,6 +17,8 @@ pub use eight::EightLists;
 mod client;
 #[cfg(test)]
 mod list_tests;
+#[cfg(test)]
+mod many_mark_tests;
 #[cfg(test)]
 mod mark_tests;
 #[cfg(test)]
