@@ -1,13 +1,15 @@
 -- Bits appended to bytes and a rest of fewer than 64 bits.
-use Rattle.std.proofs.Common.{◌≡◌, ℕ, ◌+◌, ◌-◌, ◌*◌, ◌/◌, ◌%◌, ◌^◌, ◌<◌, ◌≤◌, Bool, true, false, List, [], ◌∷◌, ◌++◌, length, take, replicate, refl, sym, ap, ap₂, ◌∙◌, subst, arith, w64, append_assoc, append-nil, pow_pos, pow-add, add-zero, take_at}
+use Rattle.std.proofs.Common.{◌≡◌, ℕ, zero, suc, ◌+◌, ◌-◌, ◌*◌, ◌/◌, ◌%◌, ◌^◌, ◌<◌, ◌≤◌, Bool, true, false, List, [], ◌∷◌, ◌++◌, length, take, replicate, refl, sym, ap, ap₂, ◌∙◌, subst, arith, w64, append_assoc, append-nil, pow_pos, pow-add, pow-suc, add-zero, take_at}
 use Rattle.std.specs.Int.{to_be_bytes}
+use Rattle.std.proofs.Math.Nat.{mod-le}
 use Rattle.std.proofs.lemmas.List.Elements.{All-take}
 use Rattle.std.proofs.lemmas.List.{replicate-append-replicate}
 use Rattle.pos_bits.specs.Bits.{AreBytes, bits, bits_of, byte_count, bytes}
 use Rattle.pos_bits.specs.Blocks.{length-bits}
+use Rattle.pos_bits.specs.Codes.{code_bits}
 use Rattle.pos_bits.proofs.BitsLemmas.{bits-append, bits-mod, bits-none, bits-ones, bits-split, bits-zero}
 use Rattle.pos_bits.proofs.BytesLemmas.{bits_of-append, bits_of-to_be_bytes, bytes-append, bytes-bits_of, bytes-padded, bytes_high_first-are_bytes, length-bytes}
-use Rattle.pos_bits.proofs.PiecesLemmas.{joined-lt, shifted, top-lt}
+use Rattle.pos_bits.proofs.PiecesLemmas.{joined-fits, joined-lt, shifted, top-lt}
 
 -- the value is put behind the rest, and both are fewer than 64 bits
 pub rest-joined :
@@ -107,10 +109,10 @@ ones-appended start middle end ones left n h m before after =
     ∙ ap (λ t. start ++ t) (replicate-append-replicate (ones - left) n true ∙ ap (λ k. replicate k true) size)
 
 -- ones and a zero as one number
-pub run-fits : (left : ℕ) → left < 32 → 2 * 2 ^ left % 2 ^ 64 - 2 < 2 ^ (left + 1)
+pub run-fits : (left : ℕ) → left < 63 → 2 * 2 ^ left % 2 ^ 64 - 2 < 2 ^ (left + 1)
 run-fits left h = rw (shifted 64 2 2 left (omega arith) (omega arith), pow-add 2 left 1) (omega (arith, pow_pos left))
 
-pub bits-run : (left : ℕ) → left < 32 → bits (2 * 2 ^ left % 2 ^ 64 - 2) (left + 1) ≡ replicate left true ++ false ∷ []
+pub bits-run : (left : ℕ) → left < 63 → bits (2 * 2 ^ left % 2 ^ 64 - 2) (left + 1) ≡ replicate left true ++ false ∷ []
 bits-run left h =
     let value : 2 * 2 ^ left % 2 ^ 64 - 2 ≡ (2 ^ left - 1) * 2 ^ 1 + 0 = rw (shifted 64 2 2 left (omega arith) (omega arith)) (omega arith) in
     ap (λ x. bits x (left + 1)) value
@@ -118,7 +120,7 @@ bits-run left h =
     ∙ ap₂ (λ a b. a ++ b) (bits-ones left) (bits-zero 1)
 
 pub run-appended :
-    (start middle end : List Bool) (ones left : ℕ) → left ≤ ones → left < 32 → middle ≡ start ++ replicate (ones - left) true →
+    (start middle end : List Bool) (ones left : ℕ) → left ≤ ones → left < 63 → middle ≡ start ++ replicate (ones - left) true →
     end ≡ middle ++ bits (2 * 2 ^ left % 2 ^ 64 - 2) (left + 1) → end ≡ start ++ (replicate ones true ++ false ∷ [])
 run-appended start middle end ones left h m before after =
     let size : (ones - left) + left ≡ ones = omega arith in
@@ -128,3 +130,48 @@ run-appended start middle end ones left h m before after =
     ∙ ap (λ t. start ++ t)
     (sym (append_assoc (replicate (ones - left) true) (replicate left true) (false ∷ []))
     ∙ ap (λ t. t ++ false ∷ []) (replicate-append-replicate (ones - left) left true ∙ ap (λ k. replicate k true) size))
+
+-- a run, its 0 bit and low bits as one number
+module _ (run low value : ℕ) (short : run + low < 63) (below : value < 2 ^ low) where
+  pub run-low_some : 2 ≤ 2 * 2 ^ run % 2 ^ 64
+  run-low_some = rw (shifted 64 2 2 run (omega arith) (omega (arith, short))) (omega (arith, pow_pos run))
+
+  pub run-low_whole : (2 * 2 ^ run % 2 ^ 64 - 2) * 2 ^ low % 2 ^ 64 ≡ (2 * 2 ^ run % 2 ^ 64 - 2) * 2 ^ low
+  run-low_whole = shifted 64 (2 * 2 ^ run % 2 ^ 64 - 2) (run + 1) low (run-fits run (omega (arith, short))) (omega (arith, short))
+
+  pub run-low_lt : (2 * 2 ^ run % 2 ^ 64 - 2) * 2 ^ low % 2 ^ 64 + value < 2 ^ (run + 1 + low)
+  run-low_lt = rw run-low_whole (joined-lt (2 * 2 ^ run % 2 ^ 64 - 2) (run + 1) low value (run-fits run (omega (arith, short))) below)
+
+  pub run-low_fits : (2 * 2 ^ run % 2 ^ 64 - 2) * 2 ^ low % 2 ^ 64 + value < 2 ^ 64
+  run-low_fits = joined-fits 64 (2 * 2 ^ run % 2 ^ 64 - 2) (run + 1) low value (run-fits run (omega (arith, short))) below (omega (arith, short))
+
+  pub run-low_bits : bits ((2 * 2 ^ run % 2 ^ 64 - 2) * 2 ^ low % 2 ^ 64 + value) (run + 1 + low) ≡ replicate run true ++ false ∷ bits value low
+  run-low_bits =
+      ap (λ x. bits (x + value) (run + 1 + low)) run-low_whole
+      ∙ bits-append (2 * 2 ^ run % 2 ^ 64 - 2) value (run + 1) low below
+      ∙ ap (λ t. t ++ bits value low) (bits-run run (omega (arith, short)))
+      ∙ append_assoc (replicate run true) (false ∷ []) (bits value low)
+
+lt_pow : (n : ℕ) → n < 2 ^ n
+lt_pow zero = omega arith
+lt_pow (suc n) = omega (arith, lt_pow n, pow-suc 2 n)
+
+-- a number whose code is shorter than 64 bits fits a word
+pub short_number : (number low most : ℕ) → low < 63 → most ≡ 63 - low → number < most * 2 ^ low % 2 ^ 128 → number < 2 ^ 63
+short_number number low most narrow is below =
+    let size : (63 - low) + low ≡ 63 = omega arith in
+    let small : most < 2 ^ (63 - low) = rw is (lt_pow (63 - low)) in
+    let whole : most * 2 ^ low + 0 < 2 ^ ((63 - low) + low) = joined-lt most (63 - low) low 0 small (pow_pos low) in
+    let top : 2 ^ ((63 - low) + low) ≡ 2 ^ 63 = ap (λ k. 2 ^ k) size in
+    omega (arith, mod-le (most * 2 ^ low) (2 ^ 128), whole, top, below)
+
+-- a run, and then low bits, are a code
+pub code-appended :
+    (start before middle end : List Bool) (low n : ℕ) → before ≡ start → middle ≡ before ++ (replicate (n / 2 ^ low) true ++ false ∷ []) →
+    end ≡ middle ++ bits (n % 2 ^ low) low → end ≡ start ++ code_bits low n
+unfolding code_bits
+code-appended start before middle end low n same first second =
+    second
+    ∙ ap (λ t. t ++ bits (n % 2 ^ low) low) (first ∙ ap (λ t. t ++ (replicate (n / 2 ^ low) true ++ false ∷ [])) same)
+    ∙ append_assoc start (replicate (n / 2 ^ low) true ++ false ∷ []) (bits (n % 2 ^ low) low)
+    ∙ ap (λ t. start ++ t) (append_assoc (replicate (n / 2 ^ low) true) (false ∷ []) (bits (n % 2 ^ low) low))

@@ -1,7 +1,7 @@
 -- Laws of `bits` and `number`: each undoes the other, and both turn a sum of widths into a string joined of two.
 use Rattle.std.proofs.Common.{◌≡◌, ℕ, zero, suc, ◌+◌, ◌-◌, ◌*◌, ◌/◌, ◌%◌, ◌^◌, ◌<◌, ◌≤◌, ◌==◌, Bool, true, false, List, [], ◌∷◌, ◌++◌, length, take, drop, replicate, refl, sym, ap, ap₂, ◌∙◌, subst, arith, suc-add, mod-eq_of_lt, length-append, take_at, drop_at, pow_pos, pow-suc, add_comm, mod-lt, one-add, zero-add, add-zero, length-drop}
 use Rattle.std.proofs.Math.Nat.{zero-div}
-use Rattle.std.proofs.lemmas.Nat.{pow-add, mod-pow-add, field_of, shr-shr, shr_high, mod_low, shr_below}
+use Rattle.std.proofs.lemmas.Nat.{pow-add, mod-pow-add, field_of, shr-shr, shr_high, mod_low}
 use Rattle.std.proofs.lemmas.List.{length-replicate, take-append-le}
 use Rattle.pos_bits.specs.Bits.{bits, digit, number}
 use Rattle.pos_bits.specs.Blocks.{length-bits}
@@ -74,10 +74,6 @@ bits-number (b ∷ s) =
     (rw (shr_high (digit b) (length s) (number s) (number-lt s)) (test_of_digit b))
     (sym (bits-mod (digit b * 2 ^ length s + number s) (length s)) ∙ (rw (mod_low (digit b) (length s) (number s) (number-lt s)) (bits-number s)))
 
--- two strings of one length that write one number are equal
-pub number-injective : (s t : List Bool) → length s ≡ length t → number s ≡ number t → s ≡ t
-number-injective s t l e = sym (bits-number s) ∙ ap₂ bits e l ∙ bits-number t
-
 -- ---- strings joined of two
 
 pub bits-none : (v : ℕ) → bits v 0 ≡ []
@@ -148,8 +144,3 @@ bits-inside x z r w h =
     sym (subst (λ k. take w (bits y k) ≡ bits (y / 2 ^ low) w) zw (take-bits y w low))
     ∙ ap (take w) shifted
     ∙ take-append-le w (drop r (bits x z)) (replicate r false) long
-
-pub inside-lt : (x z r w : ℕ) → r + w ≤ z → x * 2 ^ r % 2 ^ z / 2 ^ (z - w) < 2 ^ w
-inside-lt x z r w h =
-    let zw : w + (z - w) ≡ z = omega arith in
-    shr_below (x * 2 ^ r % 2 ^ z) w (z - w) (subst (λ k. x * 2 ^ r % 2 ^ z < 2 ^ k) (sym zw) (mod-lt (x * 2 ^ r) (pow_pos z)))

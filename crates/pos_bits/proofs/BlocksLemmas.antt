@@ -1,11 +1,11 @@
 -- Laws of strings held in blocks of z bits: the bits come back, and what a write or a read of one block does.
-use Rattle.std.proofs.Common.{◌≡◌, ℕ, zero, suc, ◌+◌, ◌-◌, ◌*◌, ◌/◌, ◌%◌, ◌^◌, ◌<◌, ◌≤◌, Bool, false, List, [], ◌∷◌, ◌++◌, length, take, drop, replicate, set, get_or, All, refl, sym, ap, ap₂, ◌∙◌, subst, arith, length-append, length-drop, length-take, take_at, drop_at, take-append-drop, append_assoc, append-nil, drop-drop, pow-add, suc-add, zero-add, inl, inr}
+use Rattle.std.proofs.Common.{◌≡◌, ℕ, zero, suc, ◌+◌, ◌-◌, ◌*◌, ◌^◌, ◌<◌, ◌≤◌, Bool, false, List, [], ◌∷◌, ◌++◌, length, take, drop, replicate, set, get_or, All, refl, sym, ap, ap₂, ◌∙◌, subst, arith, length-append, length-drop, length-take, take_at, drop_at, take-append-drop, append_assoc, append-nil, pow-add, suc-add, zero-add, inl, inr}
 use Rattle.std.proofs.lemmas.Bool.{cases_lt}
-use Rattle.std.proofs.lemmas.List.{length-replicate, take-append-le, drop-append-le, drop_all, drop-take, replicate-append-replicate, take-take}
+use Rattle.std.proofs.lemmas.List.{length-replicate, take-append-le, drop-append-le, drop_all, replicate-append-replicate}
 use Rattle.std.proofs.lemmas.List.Elements.{All-head, All-tail, All-cons, All-nil}
 use Rattle.pos_bits.specs.Bits.{bits, number}
 use Rattle.pos_bits.specs.Blocks.{bits_of_blocks, blocks, length-bits}
-use Rattle.pos_bits.proofs.BitsLemmas.{bits-inside, bits-number, number-append, number-bits, number-lt, number-replicate_false}
+use Rattle.pos_bits.proofs.BitsLemmas.{bits-number, number-append, number-bits, number-lt, number-replicate_false}
 
 -- ---- one block
 
@@ -129,31 +129,6 @@ set-blocks z (suc n) (suc q) r s v w l h i p =
     ap₂ (λ x xs. x ∷ xs) (ap number same)
     (set-blocks z n q r (drop z s) v w (rw (length-drop z s) (omega arith)) h (omega arith) p
     ∙ ap (blocks z n) (sym (drop-append-le z s (bits v w) long)))
-
--- reads bits that lie in one block
-pub bits-blocks :
-    (z n q r : ℕ) (s : List Bool) (w : ℕ) → r + w ≤ z → z * q + r + w ≤ length s → q < n →
-    bits (get_or (blocks z n s) q 0 * 2 ^ r % 2 ^ z / 2 ^ (z - w)) w ≡ take w (drop (z * q + r) s)
-unfolding blocks
-bits-blocks z zero q r s w h l i = absurd (omega arith)
-bits-blocks z (suc n) zero r s w h l i =
-    let place : z * 0 + r ≡ r = omega arith in
-    let fits : r ≤ length s = omega arith in
-    let inner : drop r (first_block z s) ≡ take (z - r) (drop r s ++ replicate z false) =
-    let e : z ≡ r + (z - r) = omega arith in
-    ap (λ k. drop r (take k (s ++ replicate z false))) e
-    ∙ drop-take r (z - r) (s ++ replicate z false)
-    ∙ ap (take (z - r)) (drop-append-le r s (replicate z false) fits) in
-    bits-inside (number (first_block z s)) z r w h
-    ∙ ap (λ t. take w (drop r t)) (bits-first_block z s)
-    ∙ ap (take w) inner
-    ∙ take-take w (z - r) (drop r s ++ replicate z false) (omega arith)
-    ∙ take-append-le w (drop r s) (replicate z false) (rw (length-drop r s) (omega arith))
-    ∙ ap (λ k. take w (drop k s)) (sym place)
-bits-blocks z (suc n) (suc q) r s w h l i =
-    let e : z + (z * q + r) ≡ z * suc q + r = omega arith in
-    bits-blocks z n q r (drop z s) w h (rw (length-drop z s) (omega arith)) (omega arith)
-    ∙ ap (take w) (drop-drop (z * q + r) z s ∙ ap (λ k. drop k s) e)
 
 pub bits_of_blocks-append : (z : ℕ) (xs ys : List ℕ) → bits_of_blocks z (xs ++ ys) ≡ bits_of_blocks z xs ++ bits_of_blocks z ys
 unfolding bits_of_blocks

@@ -1,11 +1,11 @@
 -- What eight words that hold a string say, and what a write or a read of one word does to the string.
-use Rattle.std.proofs.Common.{◌≡◌, ℕ, ◌+◌, ◌-◌, ◌*◌, ◌/◌, ◌%◌, ◌^◌, ◌<◌, ◌≤◌, Bool, List, ◌++◌, length, take, drop, set, get_or, All, sym, ap, ◌∙◌, subst, arith, get_or-set_same}
+use Rattle.std.proofs.Common.{◌≡◌, ℕ, ◌+◌, ◌-◌, ◌*◌, ◌/◌, ◌%◌, ◌^◌, ◌<◌, ◌≤◌, Bool, List, ◌++◌, length, set, get_or, All, sym, ap, ◌∙◌, subst, arith, get_or-set_same}
 use Rattle.std.proofs.lemmas.Nat.{shl_whole}
 use Rattle.std.proofs.lemmas.List.{length-set}
 use Rattle.std.proofs.lemmas.List.Elements.{All-get_or}
 use Rattle.pos_bits.specs.Bits.{bits}
 use Rattle.pos_bits.specs.Blocks.{HoldsBits, blocks, held_bits, length-blocks, length-held_bits}
-use Rattle.pos_bits.proofs.BlocksLemmas.{bits-blocks, blocks-lt, set-blocks, take-bits_of_blocks}
+use Rattle.pos_bits.proofs.BlocksLemmas.{blocks-lt, set-blocks, take-bits_of_blocks}
 
 -- the words of a string hold it
 pub held_bits-of_blocks : (words : List ℕ) (len : ℕ) (s : List Bool) → words ≡ blocks 64 8 s → length s ≡ len → len ≤ 512 → held_bits words len ≡ s
@@ -49,19 +49,6 @@ module _ (words : List ℕ) (len : ℕ) (old : List Bool) (h : HoldsBits words l
       subst (λ (xs : List ℕ). All (λ y. y < 2 ^ 64) xs) after (blocks-lt 64 8 (old ++ bits value width)) in
       subst (λ y. y < 2 ^ 64) (get_or-set_same words q x 0 inside)
       (All-get_or (λ y. y < 2 ^ 64) (set words q x) q 0 (rw length-set inside) all)
-
-  -- the bits that two shifts of a word leave
-  pub held-part :
-      (start width : ℕ) → 0 < width → start + width ≤ len → start % 64 + width ≤ 64 →
-      bits (get_or words (start / 64) 0 * 2 ^ (start % 64) % 2 ^ 64 / 2 ^ (64 - width)) width ≡ take width (drop start old)
-  held-part start width some there within =
-      let q : ℕ = start / 64 in
-      let r : ℕ = start % 64 in
-      let place : 64 * q + r ≡ start = omega arith in
-      let most : len ≤ 512 = h.at_most in
-      rw held-words
-      (bits-blocks 64 8 q r old width within (rw held-len (omega arith)) (omega arith)
-      ∙ ap (λ k. take width (drop k old)) place)
 
 -- equal words and lengths hold equal strings, and the other way round
 pub held-same :

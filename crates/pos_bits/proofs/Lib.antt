@@ -1,6 +1,7 @@
 pub mod BitsLemmas
 pub mod BlocksLemmas
 pub mod BytesLemmas
+pub mod CodeLemmas
 pub mod HeldLemmas
 pub mod JoinLemmas
 pub mod OutLemmas

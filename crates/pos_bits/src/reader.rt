@@ -1,7 +1,10 @@
 // A reader of bits over bytes.
-ghost use Rattle.std.specs.Prelude.{◌≡◌, ◌↔◌, ℕ, Bool, List, ◌∷◌, ◌++◌, ◌*◌, ◌+◌, ◌^◌, ◌<◌, ◌≤◌, true, false, drop, length, replicate, take, IfNone, IfSome, IsNone};
+ghost use Rattle.std.specs.Prelude.{◌≡◌, ◌≢◌, ◌↔◌, ℕ, Bool, List, ◌∷◌, ◌++◌, ◌*◌, ◌+◌, ◌-◌, ◌/◌, ◌%◌, ◌^◌, ◌<◌, ◌≤◌, true, false, drop, length, replicate, take, IfNone, IfSome, IsNone};
 ghost use Rattle.pos_bits.specs.Bits.{bits, bits_of};
+ghost use Rattle.pos_bits.specs.Codes.{code_bits};
+ghost use Rattle.std.specs.Int.{leading_ones};
 
+use crate::places::wide_number_at;
 use crate::window::bits_at_byte;
 use std::marker::Model;
 
@@ -78,6 +81,32 @@ impl<'a> BitReader<'a> {
         Some(ones)
     }
 
+    /// Takes the code of a number with `low` low bits, at most 112, and answers the number.
+    ///
+    /// It answers None only where what is left begins with no code of a number up to the limit, and then nothing moves. It
+    /// may answer a number above the limit.
+    #[inline(always)]
+    pub fn take_code(&mut self, low: u32, limit: u128) -> Option<u128>
+        requires low_fits { low ≤ 112 }
+        requires limit_fits { limit < 2 ^ 112 }
+        ensures some { IfSome result (λ n. self.old ≡ code_bits low n ++ self.new) }
+        ensures below { IfSome result (λ n. n < 2 ^ 113) }
+        ensures none { IfNone result ((n : ℕ) (s : List Bool) → n ≤ limit → self.old ≢ code_bits low n ++ s) }
+        ensures unchanged { IfNone result (self.new ≡ self.old) }
+    {
+        if self.bytes.len() - (self.at / 8) as usize >= 8 {
+            let window = window_at(self.bytes, self.at);
+            let ones = window.leading_ones();
+            if ones + low < WINDOW_BITS {
+                self.at += u64::from(ones + 1 + low);
+                return Some(u128::from(short_code(window, ones, low)));
+            }
+        }
+        let (number, at) = code_at(self.bytes, self.at, low, limit)?;
+        self.at = at;
+        Some(number)
+    }
+
     // Takes bits of one window.
     #[inline(always)]
     fn next(&mut self, width: u32) -> u64
@@ -91,6 +120,41 @@ impl<'a> BitReader<'a> {
         self.at += width as u64;
         value
     }
+}
+
+// The number whose code begins a window with so many 1 bits.
+#[inline(always)]
+fn short_code(window: u64, ones: u32, low: u32) -> u64
+    requires within { ones + low < WINDOW_BITS }
+    ensures { result ≡ ones * 2 ^ low + window * 2 ^ ones % 2 ^ 64 / 2 ^ (63 - low) }
+{
+    (u64::from(ones) << low) + ((window << ones) >> (63 - low))
+}
+
+// The number whose code stands at bit `at`, and the bit after it, where a number up to the limit has a code there.
+#[cold]
+#[inline(never)]
+fn code_at(bytes: &[u8], at: u64, low: u32, limit: u128) -> Option<(u128, u64)>
+    requires few { length bytes.now < 2 ^ 40 }
+    requires within { at ≤ 8 * length bytes.now }
+    requires low_fits { low ≤ 112 }
+    requires limit_fits { limit < 2 ^ 112 }
+    ensures some { IfSome result (λ found. drop at (bits_of bytes.now) ≡ code_bits low found.0 ++ drop found.1 (bits_of bytes.now)) }
+    ensures within { IfSome result (λ found. found.1 ≤ 8 * length bytes.now) }
+    ensures below { IfSome result (λ found. found.0 < 2 ^ 113) }
+    ensures none { IfNone result ((n : ℕ) (s : List Bool) → n ≤ limit → drop at (bits_of bytes.now) ≢ code_bits low n ++ s) }
+{
+    let end = 8 * bytes.len() as u64;
+    let ones = ones_from(bytes, at);
+    let from = at + ones + 1;
+    if end < from + u64::from(low) {
+        return None;
+    }
+    if u128::from(ones) > limit >> low {
+        return None;
+    }
+    let value = wide_number_at(bytes, from, low);
+    Some(((u128::from(ones) << low) + value, from + u64::from(low)))
 }
 
 // How many 1 bits stand at bit `at`, up to the next 0 bit or the end.

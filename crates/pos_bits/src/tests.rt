@@ -61,3 +61,32 @@ fn what_is_written_is_read_again(rt: HostRuntime) -> Result<(), Fail> {
     assert_eq!(rt; reader.take_run(), None);
     Ok(())
 }
+
+#[test]
+fn codes_that_are_written_are_read_again(rt: HostRuntime) -> Result<(), Fail> {
+    let mut writer = BitWriter::with_room(rt.alloc(), 8)?;
+    writer.put_code(5, 1)?;
+    writer.put_code(0, 0)?;
+    writer.put_code(2, 0)?;
+    writer.put_code(70, 0)?;
+    writer.put_code(1 << 40, 36)?;
+    writer.put_code(5 << 100, 101)?;
+    let bytes = writer.finish();
+    assert_eq!(rt; bytes.len(), 30);
+    assert_eq!(rt; bytes.as_slice()[0], 0b11010110);
+    let mut reader = BitReader::new(bytes.as_slice());
+    assert_eq!(rt; reader.take_code(1, 100), Some(5));
+    assert_eq!(rt; reader.take_code(0, 0), Some(0));
+    assert_eq!(rt; reader.take_code(0, 5), Some(2));
+    assert_eq!(rt; reader.take_code(0, 69), None);
+    assert_eq!(rt; reader.take_code(0, 70), Some(70));
+    assert_eq!(rt; reader.take_code(36, 1 << 41), Some(1 << 40));
+    assert_eq!(rt; reader.take_code(101, 1 << 110), Some(5 << 100));
+    let left = reader.left();
+    assert!(rt; 0 < left && left < 8);
+    assert_eq!(rt; reader.take_code(left as u32, 1000), None);
+    assert_eq!(rt; reader.take_code(left as u32 - 1, 1000), Some(0));
+    assert_eq!(rt; reader.left(), 0);
+    assert_eq!(rt; reader.take_code(0, 1000), None);
+    Ok(())
+}

@@ -11,7 +11,8 @@ use Rattle.pos_bits.specs.Bits.{bits, bits_of, bytes}
 use Rattle.pos_rice.specs.declared.TheConstants.{MOST_NUMBERS}
 use Rattle.pos_rice.specs.Park.{AreNumbers, IsLow, Park, park_bits, steps_bits}
 use Rattle.pos_rice.specs.Steps.{RiseFrom, last_from}
-use Rattle.pos_rice.proofs.StepLemmas.{bits_only, steps_only, RiseFrom-last, RiseFrom-mono}
+use Rattle.pos_bits.proofs.CodeLemmas.{bits_only}
+use Rattle.pos_rice.proofs.StepLemmas.{steps_only, RiseFrom-last, RiseFrom-mono}
 use Rattle.pos_rice.proofs.ParkLemmas.{Reads, Reads-from, near, rise_of}
 
 -- where no list reads the bits of the bytes, the bytes are no park
@@ -67,7 +68,7 @@ module _ (k first low : ℕ) (b r : List Bool) (head : b ≡ bits first (2 * k +
 pub limit_is : (k : ℕ) → k ≤ 50 → 1 * 2 ^ (2 * k + 2) % 2 ^ 128 - 1 ≡ 2 ^ (2 * k + 2) - 1
 limit_is k h = ap (λ x. x - 1) (one_shl (2 * k + 2) 128 (omega arith))
 
-pub limit_lt : (k : ℕ) → k ≤ 50 → 1 * 2 ^ (2 * k + 2) % 2 ^ 128 - 1 < 2 ^ 126
+pub limit_lt : (k : ℕ) → k ≤ 50 → 1 * 2 ^ (2 * k + 2) % 2 ^ 128 - 1 < 2 ^ 112
 limit_lt k h =
     let width : 2 * k + 2 ≤ 102 = omega arith in
     let most : 2 ^ (2 * k + 2) ≤ 2 ^ 102 = pow_mono width in

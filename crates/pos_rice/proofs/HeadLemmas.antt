@@ -2,7 +2,7 @@
 use Rattle.std.proofs.Common.{◌≡◌, ◌≢◌, ℕ, ◌+◌, ◌*◌, ◌^◌, ◌<◌, ◌≤◌, Bool, List, ◌++◌, length, ap, sym, ◌∙◌, arith, length-append}
 use Rattle.pos_bits.specs.Bits.{bits}
 use Rattle.pos_bits.specs.Blocks.{length-bits}
-use Rattle.pos_rice.proofs.StepLemmas.{bits_only}
+use Rattle.pos_bits.proofs.CodeLemmas.{bits_only}
 
 -- a string of which a number is the front is at least as long
 bits_front : (n w : ℕ) (s t : List Bool) → s ≡ bits n w ++ t → w ≤ length s

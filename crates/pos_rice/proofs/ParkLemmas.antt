@@ -9,11 +9,13 @@ use Rattle.std.proofs.Math.Pow.{pow_mono}
 use Rattle.std.specs.List.Sorted.{IsStrictlyIncreasing}
 use Rattle.pos_bits.specs.Bits.{bits, bits_of, byte_count, bytes, AreBytes}
 use Rattle.pos_bits.specs.Blocks.{length-bits}
+use Rattle.pos_bits.specs.Codes.{code_bits}
 use Rattle.pos_bits.proofs.BytesLemmas.{bits_of-bytes, bits_of-injective, bytes-are_bytes, length-bits_of, length-bytes, fill-lt}
 use Rattle.pos_rice.specs.declared.TheConstants.{MOST_NUMBERS}
-use Rattle.pos_rice.specs.Park.{AreNumbers, IsLow, Park, mean_step, park_bits, step_bits, steps_bits}
+use Rattle.pos_rice.specs.Park.{AreNumbers, IsLow, Park, mean_step, park_bits, steps_bits}
 use Rattle.pos_rice.specs.Steps.{RiseFrom, last_from}
-use Rattle.pos_rice.proofs.StepLemmas.{bits_only, steps_only, last_from-le}
+use Rattle.pos_bits.proofs.CodeLemmas.{bits_only}
+use Rattle.pos_rice.proofs.StepLemmas.{steps_only, last_from-le}
 
 -- ---- rising numbers, one after another
 
@@ -118,8 +120,8 @@ pub record StepsLength (low n : ℕ) (ms : List ℕ) : Type 0 where
   pub length_is : length (steps_bits low n ms) ≡ high + suc low * length ms
   pub high_le : high * 2 ^ low + n + length ms ≤ last_from n ms
 
-step_length : (low d : ℕ) → length (step_bits low d) ≡ d / 2 ^ low + suc low
-unfolding step_bits
+step_length : (low d : ℕ) → length (code_bits low d) ≡ d / 2 ^ low + suc low
+unfolding code_bits
 step_length low d =
     length-append (replicate (d / 2 ^ low) true) (false ∷ bits (d % 2 ^ low) low) ∙ omega (arith, length-replicate (d / 2 ^ low) true, length-bits (d % 2 ^ low) low)
 
@@ -130,11 +132,11 @@ steps_length low limit n (m ∷ ms) h = more (steps_length low limit m ms h.2)
   where
     more : StepsLength low m ms → StepsLength low n (m ∷ ms)
     more rest =
-        let step : length (step_bits low (m - n - 1)) ≡ (m - n - 1) / 2 ^ low + suc low = step_length low (m - n - 1) in
+        let step : length (code_bits low (m - n - 1)) ≡ (m - n - 1) / 2 ^ low + suc low = step_length low (m - n - 1) in
         let high_le : (m - n - 1) / 2 ^ low * 2 ^ low ≤ m - n - 1 = div-mul-le_self (m - n - 1) (2 ^ low) in
         record {
           high = (m - n - 1) / 2 ^ low + rest.high;
-          length_is = length-append (step_bits low (m - n - 1)) (steps_bits low m ms) ∙ omega (arith, step, rest.length_is);
+          length_is = length-append (code_bits low (m - n - 1)) (steps_bits low m ms) ∙ omega (arith, step, rest.length_is);
           high_le = omega (arith, high_le, rest.high_le, h.0);
         }
 

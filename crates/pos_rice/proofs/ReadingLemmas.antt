@@ -9,12 +9,13 @@ use Rattle.std.proofs.lemmas.Nat.{div-add-mod', mod_below, pow_pos}
 use Rattle.std.proofs.lemmas.Slice.Eq.{bytes_eq-Decides}
 use Rattle.pos_bits.specs.Bits.{bits, bits_of, bytes, number}
 use Rattle.pos_bits.specs.Blocks.{length-bits}
+use Rattle.pos_bits.specs.Codes.{code_bits}
 use Rattle.pos_bits.proofs.BitsLemmas.{number-bits}
 use Rattle.pos_rice.specs.declared.TheConstants.{MOST_NUMBERS}
-use Rattle.pos_rice.specs.Park.{AreNumbers, IsLow, Park, mean_step, park_bits, step_bits, steps_bits}
+use Rattle.pos_rice.specs.Park.{AreNumbers, IsLow, Park, mean_step, park_bits, steps_bits}
 use Rattle.pos_rice.specs.Reading.{after_ones, are_numbers, is_low, is_park, low_in, numbers_after, numbers_given, numbers_in, ones, rises_below}
 use Rattle.pos_rice.specs.Steps.{RiseFrom}
-use Rattle.pos_rice.proofs.StepLemmas.{step_split}
+use Rattle.pos_bits.proofs.CodeLemmas.{code_split}
 use Rattle.pos_rice.proofs.ParkLemmas.{Reads, Reads-from, Reads-low, rise_of, increasing_from, all_from}
 
 -- ---- what was written is read
@@ -39,14 +40,14 @@ drop-front : (v w : ℕ) (s : List Bool) → drop w (bits v w ++ s) ≡ s
 drop-front v w s = drop_at (bits v w) s w (length-bits v w)
 
 -- the step at the front
-step_read : (low d : ℕ) (s : List Bool) → (ones (step_bits low d ++ s) * 2 ^ low + number (take low (after_ones (step_bits low d ++ s))) ≡ d) × (drop low (after_ones (step_bits low d ++ s)) ≡ s)
+step_read : (low d : ℕ) (s : List Bool) → (ones (code_bits low d ++ s) * 2 ^ low + number (take low (after_ones (code_bits low d ++ s))) ≡ d) × (drop low (after_ones (code_bits low d ++ s)) ≡ s)
 step_read low d s =
-    let run : ones (step_bits low d ++ s) ≡ d / 2 ^ low = ap ones (step_split low d s) ∙ ones-run (d / 2 ^ low) (bits (d % 2 ^ low) low ++ s) in
-    let rest : after_ones (step_bits low d ++ s) ≡ bits (d % 2 ^ low) low ++ s =
-    ap after_ones (step_split low d s) ∙ after_ones-run (d / 2 ^ low) (bits (d % 2 ^ low) low ++ s) in
-    let low_bits : number (take low (after_ones (step_bits low d ++ s))) ≡ d % 2 ^ low =
+    let run : ones (code_bits low d ++ s) ≡ d / 2 ^ low = ap ones (code_split low d s) ∙ ones-run (d / 2 ^ low) (bits (d % 2 ^ low) low ++ s) in
+    let rest : after_ones (code_bits low d ++ s) ≡ bits (d % 2 ^ low) low ++ s =
+    ap after_ones (code_split low d s) ∙ after_ones-run (d / 2 ^ low) (bits (d % 2 ^ low) low ++ s) in
+    let low_bits : number (take low (after_ones (code_bits low d ++ s))) ≡ d % 2 ^ low =
     ap (λ x. number (take low x)) rest ∙ number-front (d % 2 ^ low) low s (mod_below d (2 ^ low) (pow_pos low)) in (
-      ap (λ x. x * 2 ^ low + number (take low (after_ones (step_bits low d ++ s)))) run ∙ (ap (λ x. d / 2 ^ low * 2 ^ low + x) low_bits ∙ div-add-mod' d (2 ^ low)),
+      ap (λ x. x * 2 ^ low + number (take low (after_ones (code_bits low d ++ s)))) run ∙ (ap (λ x. d / 2 ^ low * 2 ^ low + x) low_bits ∙ div-add-mod' d (2 ^ low)),
       ap (drop low) rest ∙ drop-front (d % 2 ^ low) low s,
     )
 
@@ -59,11 +60,11 @@ steps_read : (low limit n : ℕ) (ms : List ℕ) (s : List Bool) → RiseFrom li
 unfolding numbers_after steps_bits
 steps_read low limit n [] s h = refl
 steps_read low limit n (m ∷ ms) s h =
-    let joined : step_bits low (m - n - 1) ++ steps_bits low m ms ++ s ≡ step_bits low (m - n - 1) ++ (steps_bits low m ms ++ s) = append_assoc (step_bits low (m - n - 1)) (steps_bits low m ms) s in
+    let joined : code_bits low (m - n - 1) ++ steps_bits low m ms ++ s ≡ code_bits low (m - n - 1) ++ (steps_bits low m ms ++ s) = append_assoc (code_bits low (m - n - 1)) (steps_bits low m ms) s in
     let first = step_read low (m - n - 1) (steps_bits low m ms ++ s) in
     let back : n + (m - n - 1) + 1 ≡ m = omega (arith, h.0) in
     ap (λ x. numbers_after low n (suc (length ms)) x) joined
-    ∙ (numbers_after-more low n (m - n - 1) m (length ms) (step_bits low (m - n - 1) ++ (steps_bits low m ms ++ s)) (steps_bits low m ms ++ s) first.0 first.1 back
+    ∙ (numbers_after-more low n (m - n - 1) m (length ms) (code_bits low (m - n - 1) ++ (steps_bits low m ms ++ s)) (steps_bits low m ms ++ s) first.0 first.1 back
     ∙ ap (λ xs. m ∷ xs) (steps_read low limit m ms s h.2))
 
 given_read : (k n : ℕ) (ms : List ℕ) (b : List Bool) → k < 64 → (p : Reads k n ms b) → (low_in k b ≡ p.low) × (numbers_given k (suc (length ms)) b ≡ n ∷ ms)

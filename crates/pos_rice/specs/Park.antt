@@ -1,8 +1,9 @@
 -- Parks: rising numbers as bytes, in one spelling only. All of it is this project's own.
 -- k is the size of the plot; numbers are line points or numbers of table 7, with no unit; bit strings have their first bit on top.
-use Rattle.std.specs.Prelude.{◌≡◌, ℕ, suc, ◌+◌, ◌-◌, ◌*◌, ◌/◌, ◌%◌, ◌^◌, ◌<◌, ◌≤◌, All, Bool, true, false, List, [], ◌∷◌, ◌++◌, length, replicate, slice_index}
+use Rattle.std.specs.Prelude.{◌≡◌, ℕ, suc, ◌+◌, ◌-◌, ◌*◌, ◌/◌, ◌^◌, ◌<◌, ◌≤◌, All, Bool, List, [], ◌∷◌, ◌++◌, length, slice_index}
 use Rattle.std.specs.List.Sorted.{IsStrictlyIncreasing}
 use Rattle.pos_bits.specs.Bits.{bits, bytes}
+use Rattle.pos_bits.specs.Codes.{code_bits}
 use Rattle.pos_rice.specs.declared.TheConstants.{MOST_NUMBERS}
 
 -- numbers that a park can hold: at least one and not too many, rising, each of 2k + 2 bits
@@ -22,14 +23,10 @@ pub record IsLow (ns : List ℕ) (low : ℕ) : Type 0 where
   pub alone : length ns ≡ 1 → low ≡ 0
   pub digits : 1 < length ns → (2 ^ low ≤ mean_step ns) × (mean_step ns < 2 ^ suc low)
 
--- the code of d: as many 1 bits as d has in its high part, a 0 bit, and its low bits
-unfoldable pub step_bits : ℕ → ℕ → List Bool
-step_bits low d = replicate (d / 2 ^ low) true ++ false ∷ bits (d % 2 ^ low) low
-
 -- the codes of the numbers that come after n, each as how many numbers it leaves out after the one before it
 unfoldable pub steps_bits : ℕ → ℕ → List ℕ → List Bool
 steps_bits low n [] = []
-steps_bits low n (m ∷ ms) = step_bits low (m - n - 1) ++ steps_bits low m ms
+steps_bits low n (m ∷ ms) = code_bits low (m - n - 1) ++ steps_bits low m ms
 
 -- the bit string of a park: the first number in 2k + 2 bits, the count of low bits in 7 bits, and the code of each further number
 unfoldable pub park_bits : ℕ → ℕ → List ℕ → List Bool

@@ -1,7 +1,7 @@
 -- Rising numbers one after another, as a park is written and read.
 use Rattle.std.specs.Prelude.{◌≡◌, ◌≢◌, ℕ, ◌+◌, ◌*◌, ◌^◌, ◌<◌, ◌≤◌, Bool, List, [], ◌∷◌, ◌++◌, length}
 use Rattle.pos_bits.specs.Bits.{bits}
-use Rattle.pos_rice.specs.Park.{step_bits, steps_bits}
+use Rattle.pos_rice.specs.Park.{steps_bits}
 
 -- numbers that rise from n, none of them above the limit
 abbrev pub RiseFrom : ℕ → ℕ → List ℕ → Type 0
@@ -17,10 +17,6 @@ last_from n (m ∷ ms) = last_from m ms
 abbrev pub NoHead : ℕ → List Bool → Type 0
 NoHead k b =
     (n low : ℕ) (s : List Bool) → n < 2 ^ (2 * k + 2) → low < 2 * k + 2 → b ≢ bits n (2 * k + 2) ++ (bits low 7 ++ s)
-
--- the bits do not begin with the code of a step below the room
-abbrev pub NoStep : ℕ → ℕ → List Bool → Type 0
-NoStep low room b = (step : ℕ) (s : List Bool) → step < room → b ≢ step_bits low step ++ s
 
 -- the bits do not begin with the codes of so many numbers that rise from n, none of them above the limit
 abbrev pub NoSteps : ℕ → ℕ → ℕ → ℕ → List Bool → Type 0

@@ -1,9 +1,9 @@
 //! From a park to its numbers.
 
 ghost use Rattle.pos_bits.specs.Bits.{bits};
-ghost use Rattle.pos_rice.specs.Park.{Park, step_bits, steps_bits};
+ghost use Rattle.pos_rice.specs.Park.{Park, steps_bits};
 ghost use Rattle.pos_rice.specs.Reading.{numbers_in};
-ghost use Rattle.pos_rice.specs.Steps.{NoHead, NoStep, NoSteps, RiseFrom};
+ghost use Rattle.pos_rice.specs.Steps.{NoHead, NoSteps, RiseFrom};
 ghost use Rattle.pos_rice.specs.declared.TheConstants.{MOST_NUMBERS};
 ghost use Rattle.std.specs.Prelude.{◌≡◌, ◌↔◌, ℕ, List, false, ◌++◌, ◌+◌, ◌*◌, ◌^◌, ◌<◌, ◌≤◌, drop, length, replicate, take, IfNone, IfSome, IsTrue, OnErr, OnOk, OnSome};
 
@@ -79,36 +79,21 @@ fn take_steps(
     limit: u128,
     out: &mut [u128],
 ) -> Option<()>
-    requires low { low < 126 }
+    requires low { low ≤ 112 }
     requires first { first ≤ limit }
-    requires limit { limit < 2 ^ 126 }
+    requires limit { limit < 2 ^ 112 }
+    requires few { length out.old ≤ MOST_NUMBERS }
     ensures some { OnSome result (reader.old ≡ steps_bits low first out.new ++ reader.new) }
     ensures rise { OnSome result (RiseFrom limit first out.new) }
     ensures none { IfNone result (NoSteps low limit first (length out.old) reader.old) }
 {
     let mut last = first;
     for place in out.iter_mut() {
-        last += take_step(reader, low, limit - last)? + 1;
+        last += reader.take_code(low, limit)? + 1;
         *place = last;
     }
-    Some(())
-}
-
-/// Takes the code of a number below the room.
-#[inline(always)]
-fn take_step(reader: &mut BitReader, low: u32, room: u128) -> Option<u128>
-    requires low { low < 126 }
-    requires room { room < 2 ^ 126 }
-    ensures some { IfSome result (λ step. reader.old ≡ step_bits low step ++ reader.new) }
-    ensures below { IfSome result (λ step. step < room) }
-    ensures none { IfNone result (NoStep low room reader.old) }
-{
-    let run = u128::from(reader.take_run()?);
-    if run > room >> low {
-        return None;
-    }
-    let step = (run << low) + reader.take(low)?;
-    if step < room { Some(step) } else { None }
+    // they rise, so none of them is above the limit where the last one is not
+    if last <= limit { Some(()) } else { None }
 }
 
 /// Whether what is left is fewer than eight bits, all 0.

@@ -2,6 +2,7 @@
 
 ghost use Rattle.pos_rice.specs.Park.{AreNumbers, Park, steps_bits};
 ghost use Rattle.pos_rice.specs.Steps.{RiseFrom};
+ghost use Rattle.pos_rice.specs.declared.TheConstants.{MOST_NUMBERS};
 ghost use Rattle.std.specs.Prelude.{◌≡◌, ◌++◌, ◌+◌, ◌^◌, ◌<◌, ◌≤◌, IfOk, OnOk};
 
 use crate::low::low_width;
@@ -19,11 +20,20 @@ pub fn encode_park(alloc: Global, k: u32, numbers: &[u128]) -> Result<Vec<u8>, M
 {
     let first = numbers[0];
     let low = low_width(numbers);
-    let mut writer = BitWriter::new(alloc);
+    let mut writer = BitWriter::with_room(alloc, room(low, numbers.len()))?;
     writer.put(first, 2 * k + 2)?;
     writer.put(u128::from(low), 7)?;
     put_steps(&mut writer, low, first, &numbers[1..])?;
     Ok(writer.finish())
+}
+
+/// So many bytes hold most parks of so many numbers with so many low bits: the 1 bits of a code are fewer than two on
+/// average, and the first number and the count of low bits have at most 109 bits.
+fn room(low: u32, count: usize) -> usize
+    requires low { low < 128 }
+    requires few { count ≤ MOST_NUMBERS }
+{
+    ((low as usize + 3) * count + 109) / 8 + 1
 }
 
 /// Appends the code of each number that comes after `first`.
@@ -35,8 +45,7 @@ fn put_steps(writer: &mut BitWriter, low: u32, first: u128, numbers: &[u128]) ->
     let mut before = first;
     for number in numbers {
         let step = *number - before - 1;
-        writer.put_run((step >> low) as u64)?;
-        writer.put(step % (1 << low), low)?;
+        writer.put_code(step, low)?;
         before = *number;
     }
     Ok(())

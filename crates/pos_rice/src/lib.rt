@@ -18,7 +18,7 @@ pub use laws::{
 };
 
 /// The greatest number of numbers that one park holds.
-pub const MOST_NUMBERS: usize = 2048;
+pub const MOST_NUMBERS: usize = 4096;
 
 /// The greatest length of a park in bytes.
 pub const MOST_BYTES: usize = 14 * MOST_NUMBERS;

@@ -106,7 +106,7 @@ fn round_trips(rt: &(impl Abort + Alloc<A = Global>), k: u32) -> Result<(), Fail
     requires k_low { 10 ≤ k }
     requires k_high { k ≤ 50 }
 {
-    for count in [1, 2, 2047, 2048] {
+    for count in [1, 2, 2048, 4095, 4096] {
         let bits = 2 * k as usize + 9 + (count - 1);
         assert_eq!(rt; round_trip(rt, k, count, None)?, bits.div_ceil(8));
         round_trip(rt, k, count, Some((1 << (2 * k + 2)) - 1))?;

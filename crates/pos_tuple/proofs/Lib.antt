@@ -1,5 +1,5 @@
+mod BlockLemmas
 pub mod MatchLemmas
-pub mod NodeLemmas
 pub mod StreamLemmas
 mod WindowLemmas
 pub mod Worked

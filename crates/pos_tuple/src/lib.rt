@@ -3,6 +3,7 @@
 //! Source of the rules: the Proof of Space Construction document, version 1.1, and chiapos.
 #![tactic(auto)]
 
+mod block;
 mod challenge;
 mod entry;
 mod in_order;

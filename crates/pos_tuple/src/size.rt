@@ -22,12 +22,12 @@ impl Model for Size {
 }
 
 impl Size {
-    /// The size k, or None where k is outside 10 to 32, the sizes that plots may have by now.
+    /// The size k, or None where k is outside 10 to 50.
     pub fn new(k: u64) -> Option<Size>
-        ensures found { IsSome result ↔ ((10 ≤ k) × (k ≤ 32)) }
+        ensures found { IsSome result ↔ ((10 ≤ k) × (k ≤ 50)) }
         ensures value { IfSome result (λ size. size ≡ k) }
     {
-        if 10 <= k && k <= 32 {
+        if 10 <= k && k <= 50 {
             Some(Size { k: k as u32 })
         } else {
             None

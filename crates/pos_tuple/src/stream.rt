@@ -4,6 +4,7 @@ ghost use Rattle.pos_bits.specs.Bits.{bits, number};
 ghost use Rattle.pos_tuple.specs.Stream.{stream_key, stream_word, stream_bits, f1_of};
 
 use crate::Size;
+use crate::block::{state_after, state_before, word_between};
 use rand_chacha::ChaCha8Rng;
 use rand_core::SeedableRng;
 use rand_core::utils::NextWord;
@@ -38,9 +39,41 @@ pub(crate) fn key_of(id: &Id) -> [u8; 32]
     key
 }
 
-// The 96 bits of the stream that begin at a word's place.
+// The 96 bits of the stream that begin at a word's place. Mostly they lie in one block.
 #[inline]
 fn stream_window(id: &Id, word: u64) -> u128
+    requires { word < 2 ^ 60 }
+    ensures bits { bits result 96 ≡ stream_bits id.now.0 (32 * word) 96 }
+    ensures below { result < 2 ^ 96 }
+{
+    if word % 16 < 14 {
+        window_within(id, word)
+    } else {
+        window_across(id, word)
+    }
+}
+
+// The same, where the three words lie in one block.
+#[inline]
+fn window_within(id: &Id, word: u64) -> u128
+    requires place { word % 16 < 14 }
+    ensures bits { bits result 96 ≡ stream_bits id.now.0 (32 * word) 96 }
+    ensures below { result < 2 ^ 96 }
+{
+    let at = (word % 16) as usize;
+    let before = state_before(id, word / 16);
+    let after = state_after(before);
+    let first = word_between(&before, &after, at);
+    let second = word_between(&before, &after, at + 1);
+    let third = word_between(&before, &after, at + 2);
+    let high = (first.swap_bytes() as u128) << 64;
+    let middle = (second.swap_bytes() as u128) << 32;
+    high + middle + third.swap_bytes() as u128
+}
+
+// The same by the generator, which makes four blocks.
+#[inline(never)]
+fn window_across(id: &Id, word: u64) -> u128
     requires { word < 2 ^ 60 }
     ensures bits { bits result 96 ≡ stream_bits id.now.0 (32 * word) 96 }
     ensures below { result < 2 ^ 96 }

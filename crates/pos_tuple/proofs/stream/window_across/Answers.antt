@@ -4,7 +4,7 @@ use Rattle.rand_chacha.specs.ChaCha.{of_seed}
 use Rattle.pos_bits.specs.Bits.{bits}
 use Rattle.pos_tuple.specs.Stream.{ReadsFrom, stream_word}
 use Rattle.pos_tuple.proofs.StreamLemmas.{reads_from-set, reads_from-word, reads_from-next, stream_bits-window}
-use Rattle.pos_tuple.proofs.stream.stream_window.Goals as goal
+use Rattle.pos_tuple.proofs.stream.window_across.Goals as goal
 
 pub returns-clause-bits : goal.returns-clause-bits
 returns-clause-bits c =
