@@ -5,7 +5,7 @@ use Rattle.pos_edge.specs.View.{View}
 use Rattle.pos_edge.specs.Frame.{ChangesOnly, ChangesFile, FileBeside, Nothing, Just, NameOf}
 use Rattle.pos_edge.specs.Images.{EachImage, ImagesBy}
 
-iff_then : {A B C : Type 0} → (A ↔ B) → (B ↔ C) → A ↔ C
+pub iff_then : {A B C : Type 0} → (A ↔ B) → (B ↔ C) → A ↔ C
 iff_then f g = (λ a. g.0 (f.0 a), λ c. f.1 (g.1 c))
 
 -- nothing changes from a moment to itself

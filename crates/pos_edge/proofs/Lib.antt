@@ -14,3 +14,4 @@ mod MemoryUses
 pub mod Quiets
 pub mod ScratchFiles
 pub mod ScratchWorkLemmas
+mod SourceLemmas

@@ -17,8 +17,8 @@ abbrev pub change_at : (BlankName → BlankName) → ℕ → List BlankName → 
 change_at f slot names None = names
 change_at f slot names (Some kept) = slice_set names slot (f kept)
 
-abbrev pub raised : ℕ → ℕ → List BlankName → List BlankName
-raised slot end names = change_at (λ kept. record { name = kept.name; there = kept.there; length = max kept.length end }) slot names (slice_get names slot)
+abbrev pub lengthened : ℕ → ℕ → List BlankName → List BlankName
+lengthened slot end names = change_at (λ kept. record { name = kept.name; there = kept.there; length = max kept.length end }) slot names (slice_get names slot)
 
 abbrev pub removed : ℕ → List BlankName → List BlankName
 removed slot names = change_at (λ kept. record { name = kept.name; there = false; length = kept.length }) slot names (slice_get names slot)

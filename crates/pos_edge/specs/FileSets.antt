@@ -1,22 +1,12 @@
 -- Sets of open files, by their FileIds: those that a value owns, beside those that a call may change.
-use Rattle.std.specs.Prelude.{ℕ, ◌≡◌, ◌⊎◌, true, List, [], ◌∷◌}
+use Rattle.std.specs.Prelude.{ℕ, ◌≡◌, true, List}
 use Rattle.pos_edge.specs.View.{View}
 use Rattle.pos_edge.specs.Frame.{NameOf}
-
--- one of these FileIds
-abbrev pub IsOneOf : List ℕ → ℕ → Type 0
-IsOneOf [] file = ⊥
-IsOneOf (first ∷ others) file = (file ≡ first) ⊎ IsOneOf others file
 
 -- No FileId of the set is among the ids, and none's name among the names.
 pub record IsOutside (files : ℕ → Type 0) (names : List ℕ → Type 0) (ids : ℕ → Type 0) (view : View) : Type 0 where
   pub not_ids : (file : ℕ) → files file → ids file → ⊥
   pub not_names : (file : ℕ) (name : List ℕ) → files file → NameOf file view name → names name → ⊥
-
--- No FileId is in both sets, and no name is that of a file of each.
-pub record AreApart (first second : ℕ → Type 0) (view : View) : Type 0 where
-  pub not_both : (file : ℕ) → first file → second file → ⊥
-  pub not_one : (f g : ℕ) (name : List ℕ) → first f → second g → NameOf f view name → NameOf g view name → ⊥
 
 -- Each FileId of the set is live, and no two are of one file.
 pub record AreTogether (own : ℕ → Type 0) (view : View) : Type 0 where

@@ -13,4 +13,5 @@ pub mod Quiet
 pub mod ScratchNames
 pub mod ScratchWork
 pub mod Sinks
+pub mod Sources
 pub mod View

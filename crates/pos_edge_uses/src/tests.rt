@@ -4,7 +4,7 @@ ghost use Rattle.pos_edge.specs.ScratchNames.{StandsOn};
 
 use pos_edge::{
     BlankDisk, CreateFault, Disk, FileId, MAX_SCRATCH_FILES, Memory, MemoryDisk, MemorySink,
-    OpenFault, PutFailed, Scratch, Sink, WorkFault,
+    MemorySource, OpenFault, PutFailed, Scratch, Sink, Source, TakeFailed, WorkFault,
 };
 use std::alloc::Global;
 use std::process::Abort;
@@ -32,6 +32,36 @@ fn a_sink_fails_at_its_first_put_and_where_room_is_short(rt: HostRuntime) -> Res
     assert_eq!(rt; sink.text(), b"abcd".as_slice());
     let memory = Memory;
     assert_eq!(rt; memory, Memory);
+    Ok(())
+}
+
+// The next take into a buffer of eight bytes gives these.
+fn gives(rt: &impl Abort, source: &mut MemorySource, want: &[u8]) {
+    let mut buf = [0; 8];
+    let count = source.take(&mut buf).unwrap_or(9);
+    assert_eq!(rt; buf.get(..count), Some(want));
+}
+
+#[test]
+fn a_source_gives_its_bytes_by_pieces_and_then_none(rt: HostRuntime) -> Result<(), Fail> {
+    let alloc = rt.alloc();
+    let bytes = Vec::from_slice(alloc, b"proofs of a plot\n")?;
+    let mut source = MemorySource::new(bytes, vec![in alloc; 3, 0, 20]?, Vec::new(alloc));
+    for want in [b"pro".as_slice(), b"o", b"fs of a ", b"plot\n", b"", b""] {
+        gives(&rt, &mut source, want);
+    }
+    Ok(())
+}
+
+#[test]
+fn a_source_fails_at_its_second_take_and_loses_nothing(rt: HostRuntime) -> Result<(), Fail> {
+    let alloc = rt.alloc();
+    let bytes = Vec::from_slice(alloc, b"quit\n")?;
+    let mut source = MemorySource::new(bytes, vec![in alloc; 2]?, vec![in alloc; 1]?);
+    let mut buf = [0; 8];
+    assert_eq!(rt; source.take(&mut buf), Ok(2));
+    assert_eq!(rt; source.take(&mut buf), Err(TakeFailed));
+    gives(&rt, &mut source, b"it\n");
     Ok(())
 }
 

@@ -17,7 +17,8 @@ use std::rt::Files;
 ///
 /// - `create` makes a file that may be written; `open` opens one for reads alone, so nothing is written to a file that
 ///   the disk did not make: a write to another fails, and counts as a fault.
-/// - What is no plain file, as a folder, a fifo or a device, is not opened: `open` answers `Failed`.
+/// - What is no plain file, as a folder, a fifo or a device, is not opened: `open` answers `Failed`. A name below a plain
+///   file, or longer than the system takes, is a name that no file has: `Absent`.
 /// - A sync and a removal sync the folder too, since else a new file may be absent after a crash and a removed one return.
 /// - Once a sync has failed each later one fails: the system may have dropped what was to be written, and says so once.
 #[derive(Drop)]
@@ -84,7 +85,9 @@ impl<'a, R: Files<File = File>> HostDisk<'a, R> {
         };
         match open_to_read(self.rt, text) {
             Ok(open) => Ok(FileId(give(&mut self.handles, open))),
-            Err(ErrorKind::NotFound) => Err(OpenFault::Absent),
+            Err(ErrorKind::NotFound | ErrorKind::NotADirectory | ErrorKind::InvalidFilename) => {
+                Err(OpenFault::Absent)
+            }
             Err(_) => {
                 self.faults = self.faults.saturating_add(1);
                 Err(OpenFault::Failed)

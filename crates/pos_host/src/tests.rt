@@ -3,12 +3,13 @@
 ghost use Rattle.std.specs.Prelude.{◌+◌, ◌^◌, ◌<◌, ◌≤◌, length, IsTrue, IfOk, OnOk};
 ghost use Rattle.pos_edge.specs.Calls.{IsThere};
 
-use crate::{HostDisk, HostSink};
+use crate::{HostDisk, HostSink, HostSource};
 use pos_edge::{
-    CreateFault, Disk, DiskFailed, FileId, OpenFault, PutFailed, Sink, WorkFault, WriteFault,
+    CreateFault, Disk, DiskFailed, FileId, OpenFault, PutFailed, Sink, Source, TakeFailed,
+    WorkFault, WriteFault,
 };
 use std::fs::Permissions;
-use std::io::{ErrorKind, Write};
+use std::io::{ErrorKind, Read, Write};
 use std::os::unix::fs::{MetadataExt, PermissionsExt, symlink};
 use std::test::Fail;
 use std::{fs, io};
@@ -92,6 +93,61 @@ fn a_writer_that_errs_at_once_is_no_sink(rt: HostRuntime) -> Result<(), Fail> {
         interrupted: false,
     });
     assert!(rt; sink.is_err());
+    Ok(())
+}
+
+// Gives a few bytes a call, and is interrupted first. Once it has none left, it errs, or gives none.
+struct Drips<'a> {
+    left: &'a [u8],
+    errs: bool,
+    interrupted: bool,
+}
+
+impl Drop for Drips<'_> {
+    fn drop(self) {
+        let Drips {
+            left: _,
+            errs: _,
+            interrupted: _,
+        } = self;
+    }
+}
+
+impl Read for Drips<'_> {
+    fn read(&mut self, buf: &mut [u8]) -> io::Result<usize> {
+        if !self.interrupted {
+            self.interrupted = true;
+            return Err(io::Error::from(ErrorKind::Interrupted));
+        }
+        if self.left.is_empty() && self.errs {
+            return Err(io::Error::from(ErrorKind::Other));
+        }
+        let n = buf.len().min(self.left.len()).min(4);
+        buf[..n].copy_from_slice(&self.left[..n]);
+        self.left = &self.left[n..];
+        Ok(n)
+    }
+}
+
+// Standard input is a source too; a test can't say what stands there.
+#[test]
+fn a_reader_gives_what_one_read_gives_until_it_has_none_or_errs(
+    rt: HostRuntime,
+) -> Result<(), Fail> {
+    let _input = HostSource::new(rt.stdin());
+    for (errs, end) in [(false, Ok(0)), (true, Err(TakeFailed))] {
+        let mut source = HostSource::new(Drips {
+            left: b"proofs",
+            errs,
+            interrupted: false,
+        });
+        let mut buf = [0; 5];
+        assert_eq!(rt; source.take(&mut buf), Ok(4));
+        assert_eq!(rt; buf, *b"proo\0");
+        assert_eq!(rt; source.take(&mut buf), Ok(2));
+        assert_eq!(rt; buf, *b"fsoo\0");
+        assert_eq!(rt; source.take(&mut buf), end);
+    }
     Ok(())
 }
 

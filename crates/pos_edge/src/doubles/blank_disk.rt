@@ -6,7 +6,7 @@ ghost use Rattle.pos_edge.specs.Images.{ImagesBy, Tears, Stays, MayVanish};
 ghost use Rattle.pos_edge.specs.Calls.{IsThere, WasThere, WasAbsent, IsCreated, IsHalfCreated, IsOpened, AreBytesAt, IsWritten, IsHalfWritten, SameContents, IsSynced, Ends, IsGone, IsAsItWasOrGone};
 ghost use Rattle.pos_edge.specs.Quiet.{quiet_view, quiet_is_disk, live_in, known_size, QuietCreates, QuietOpens, QuietReads, QuietWrites, QuietSyncs, QuietRemoves};
 ghost use Rattle.pos_edge.specs.BlankDisks.{HasName, HasLength, with_name, fresh_blank, quiet_of, blank_view};
-ghost use Rattle.pos_edge.specs.BlankFiles.{blank_names, IsThereAt, raised, removed};
+ghost use Rattle.pos_edge.specs.BlankFiles.{blank_names, IsThereAt, lengthened, removed};
 
 use crate::{CreateFault, Disk, DiskFailed, FileId, MAX_READ, OpenFault, WriteFault};
 use std::alloc::Global;
@@ -116,7 +116,7 @@ impl BlankDisk {
         ensures sizes { (size : ℕ) → slice_get (quiet_of self.old).sizes id ≡ Some (Some size)
             → (quiet_of self.new).sizes ≡ slice_set (quiet_of self.old).sizes id (Some (max size end)) }
         ensures names { (handle : BlankHandle) → slice_get self.old.handles id ≡ Some handle
-            → self.new.names ≡ raised handle.slot end self.old.names }
+            → self.new.names ≡ lengthened handle.slot end self.old.names }
         ensures reads { self.new.reads ≡ self.old.reads }
     {
         let handle = self.handles[id as usize];
@@ -221,7 +221,7 @@ impl Disk for BlankDisk {
         ensures memory { IsErrOf result WriteFault.Memory → IsUntouched (blank_view self.old) (blank_view self.new) }
         ensures quiet { SameFaultsBut WriteFault.Failed result (blank_view self.old) (blank_view self.new) }
         ensures names { (handle : BlankHandle) → slice_get self.old.handles file.0 ≡ Some handle
-            → self.new.names ≡ raised handle.slot (at + length bytes.now) self.old.names }
+            → self.new.names ≡ lengthened handle.slot (at + length bytes.now) self.old.names }
         ensures never { IsOk result }
     {
         self.write(file.0, at + bytes.len() as u64);
@@ -313,7 +313,7 @@ fn give(handles: &mut Vec<BlankHandle>, slot: usize, size: u64) -> u64
 
 // The file has at least so many bytes.
 fn raise(files: &mut Vec<BlankFile>, slot: usize, end: u64)
-    ensures { blank_names files.new.items ≡ raised slot end (blank_names files.old.items) }
+    ensures { blank_names files.new.items ≡ lengthened slot end (blank_names files.old.items) }
 {
     if slot < files.len() {
         let file = &mut files[slot];
