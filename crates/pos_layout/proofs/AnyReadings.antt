@@ -5,6 +5,7 @@ use Rattle.pos_lists.specs.Pairs.{greater}
 use Rattle.pos_layout.specs.declared.damage.Damage.{Damage}
 use Rattle.pos_layout.specs.declared.damage.Damage.TheVariants.{Pointer}
 use Rattle.pos_layout.specs.Fields.{count_of, header_in}
+use Rattle.pos_layout.specs.Layouts.{full_of}
 use Rattle.pos_layout.specs.Lists.{points_inside}
 use Rattle.pos_layout.specs.Reading.{tested, then_read, read_park, num}
 use Rattle.pos_layout.specs.ReadingLaws.{NumbersPointInside, AnyFileReadsValues}
@@ -29,11 +30,11 @@ passed false d n m e = absurd (false≢true (ap went_well e))
 pub numbers_point_inside : NumbersPointInside
 unfolding num
 numbers_point_inside l b t i n e =
-    let found = read_before (read_park l b t (i / l.full))
-    (λ ns. tested (points_inside (header_in b).size t (count_of (header_in b) (t - 1)) (slice_index ns (i % l.full))) (Pointer t i) (slice_index ns (i % l.full)))
+    let found = read_before (read_park l b t (i / full_of l))
+    (λ ns. tested (points_inside (header_in b).size t (count_of (header_in b) (t - 1)) (slice_index ns (i % full_of l))) (Pointer t i) (slice_index ns (i % full_of l)))
     n e in
-    let test = passed (points_inside (header_in b).size t (count_of (header_in b) (t - 1)) (slice_index found.0 (i % l.full))) (Pointer t i)
-    (slice_index found.0 (i % l.full)) n found.1 in
+    let test = passed (points_inside (header_in b).size t (count_of (header_in b) (t - 1)) (slice_index found.0 (i % full_of l))) (Pointer t i)
+    (slice_index found.0 (i % full_of l)) n found.1 in
     subst (λ v. points_inside (header_in b).size t (count_of (header_in b) (t - 1)) v ≡ true) test.1 test.0
 
 -- of table 1

@@ -2,16 +2,16 @@
 use Rattle.std.proofs.Common.{◌≡◌, ℕ, zero, suc, ◌+◌, ◌*◌, ◌%◌, ◌^◌, ◌<◌, ◌≤◌, leb, eqb, ◌&&◌, Bool, true, false, List, [], ◌∷◌, ◌++◌, length, take, drop, get_or, replicate, Option, Some, None, refl, sym, ap, ◌∙◌, arith, append_assoc, append-nil}
 use Rattle.std.proofs.lemmas.List.{get_or-take, get_or-drop, take_all, length-take, length-drop, drop_more, take_more}
 use Rattle.std.proofs.lemmas.Nat.{one_shl}
-use Rattle.std.specs.Int.{w32, w64, to_be_bytes}
+use Rattle.std.specs.Int.{w16, w32, w64, to_be_bytes}
 use Rattle.pos_layout.specs.declared.header.Column.{Column}
 use Rattle.pos_layout.specs.declared.header.Header.{Header}
 use Rattle.pos_layout.specs.declared.entry.ParkEntry.{ParkEntry}
-use Rattle.pos_layout.specs.Bytes.{part, four, eight}
-use Rattle.pos_layout.specs.Layouts.{Layout}
+use Rattle.pos_layout.specs.Bytes.{part, two, four, eight, two_at}
+use Rattle.pos_layout.specs.Layouts.{Layout, name_of, memo_of}
 use Rattle.std.specs.List.{list_all}
 use Rattle.std.specs.Str.{bytes_eq}
 use Rattle.pos_layout.specs.declared.damage.HeaderField.{HeaderField}
-use Rattle.pos_layout.specs.declared.damage.HeaderField.TheVariants.{Name, Size, Zeros, Counts}
+use Rattle.pos_layout.specs.declared.damage.HeaderField.TheVariants.{Name, Size, Zeros, Memo, Counts}
 use Rattle.pos_layout.specs.declared.header.TheConstants.{LEAST_SIZE, GREATEST_SIZE}
 use Rattle.pos_layout.specs.Damages.{unless, first_found, header_fault}
 use Rattle.pos_layout.specs.Fields.{column_bytes, columns_bytes, entry_fields, header_bytes, header_in, name_in, zeros_in}
@@ -56,6 +56,10 @@ four_elements xs at =
 
 pub part-eight : (xs : List ℕ) (at : ℕ) → at + 8 ≤ length xs → part xs at 8 ≡ get_or xs at 0 ∷ get_or xs (at + 1) 0 ∷ get_or xs (at + 2) 0 ∷ get_or xs (at + 3) 0 ∷ get_or xs (at + 4) 0 ∷ get_or xs (at + 5) 0 ∷ get_or xs (at + 6) 0 ∷ get_or xs (at + 7) 0 ∷ []
 part-eight xs at h = listed-is xs at 8 h ∙ eight_elements xs at
+
+pub part-two : (xs : List ℕ) (at : ℕ) → at + 2 ≤ length xs → part xs at 2 ≡ get_or xs at 0 ∷ get_or xs (at + 1) 0 ∷ []
+unfolding listed
+part-two xs at h = listed-is xs at 2 h
 
 pub part-four : (xs : List ℕ) (at : ℕ) → at + 4 ≤ length xs → part xs at 4 ≡ get_or xs at 0 ∷ get_or xs (at + 1) 0 ∷ get_or xs (at + 2) 0 ∷ get_or xs (at + 3) 0 ∷ []
 part-four xs at h = listed-is xs at 4 h ∙ four_elements xs at
@@ -124,10 +128,10 @@ columns_all cs x v i e f h =
     let n : 56 + 16 * i ≡ 168 = omega arith in
     ap (λ j. take j v) (sym n) ∙ (h ∙ ap (λ y. x ++ columns_bytes y) (take_all i cs (omega arith)))
 
-pub header_bytes-is : (l : Layout) (h : Header) (z f : List ℕ) (k : ℕ) → k ≡ h.size → z ≡ replicate 7 0 → f ≡ to_be_bytes w64 h.file_length
-    → ((((((0 ∷ []) ++ l.name) ++ h.id.0) ++ (k ∷ [])) ++ z) ++ columns_bytes h.columns) ++ f ≡ header_bytes l 0 h
-unfolding header_bytes eight
-header_bytes-is l h z f k ek ez ef = simp append_assoc (rw (ek, ez, ef) refl)
+pub header_bytes-is : (l : Layout) (h : Header) (n m z f : List ℕ) (k : ℕ) → n ≡ name_of l → k ≡ h.size → m ≡ to_be_bytes w16 h.memo_length → z ≡ replicate 5 0 → f ≡ to_be_bytes w64 h.file_length
+    → (((((((0 ∷ []) ++ n) ++ h.id.0) ++ (k ∷ [])) ++ m) ++ z) ++ columns_bytes h.columns) ++ f ≡ header_bytes l 0 h
+unfolding header_bytes two eight
+header_bytes-is l h n m z f k en ek em ez ef = simp append_assoc (rw (en, ek, em, ez, ef) refl)
 
 -- ---- the tests
 
@@ -141,42 +145,54 @@ pub skip : {D : Type 0} (test : Bool) (d : D) (tests : List (Option D)) (o : Opt
 skip test d tests o e f = first_holds test d tests e ∙ f
 
 -- what the tests of a header find, by their answers
-pub fault_name : (l : Layout) (b : List ℕ) → bytes_eq (name_in b) l.name ≡ false → header_fault l b ≡ Some Name
+pub fault_name : (l : Layout) (b : List ℕ) → bytes_eq (name_in b) (name_of l) ≡ false → header_fault l b ≡ Some Name
 unfolding header_fault
 fault_name l b n = first_fails _ _ _ n
 
-pub fault_size : (l : Layout) (b : List ℕ) (k : ℕ) → k ≡ get_or b 48 0 → bytes_eq (name_in b) l.name ≡ true → (leb LEAST_SIZE k && leb k GREATEST_SIZE) ≡ false → header_fault l b ≡ Some Size
+pub fault_size : (l : Layout) (b : List ℕ) (k : ℕ) → k ≡ get_or b 48 0 → bytes_eq (name_in b) (name_of l) ≡ true → (leb LEAST_SIZE k && leb k GREATEST_SIZE) ≡ false → header_fault l b ≡ Some Size
 unfolding header_fault header_in
 fault_size l b k e n s = skip _ _ _ _ n (first_fails _ _ _ (ap (λ k. leb LEAST_SIZE k && leb k GREATEST_SIZE) (sym e) ∙ s))
 
-pub fault_zeros : (l : Layout) (b z : List ℕ) (k : ℕ) → k ≡ get_or b 48 0 → z ≡ zeros_in b → bytes_eq (name_in b) l.name ≡ true → (leb LEAST_SIZE k && leb k GREATEST_SIZE) ≡ true
+pub fault_zeros : (l : Layout) (b z : List ℕ) (k : ℕ) → k ≡ get_or b 48 0 → z ≡ zeros_in l b → bytes_eq (name_in b) (name_of l) ≡ true → (leb LEAST_SIZE k && leb k GREATEST_SIZE) ≡ true
     → list_all (λ x. eqb x 0) z ≡ false → header_fault l b ≡ Some Zeros
 unfolding header_fault header_in
 fault_zeros l b z k e f n s t =
     skip _ _ _ _ n (skip _ _ _ _ (ap (λ k. leb LEAST_SIZE k && leb k GREATEST_SIZE) (sym e) ∙ s) (first_fails _ _ _ (ap (list_all (λ x. eqb x 0)) (sym f) ∙ t)))
 
-fault_rest : (l : Layout) (b z : List ℕ) (k most : ℕ) (cs : List Column) (o : Option HeaderField) → k ≡ get_or b 48 0 → z ≡ zeros_in b → cs ≡ (header_in b).columns → most ≡ 2 ^ (k + 1)
-    → bytes_eq (name_in b) l.name ≡ true → (leb LEAST_SIZE k && leb k GREATEST_SIZE) ≡ true → list_all (λ x. eqb x 0) z ≡ true
-    → first_found (unless (list_all (λ (c : Column). leb c.count most) cs) Counts ∷ []) ≡ o → header_fault l b ≡ o
+-- the tests after the zeros, by those up to them
+fault_later : (l : Layout) (b z : List ℕ) (k : ℕ) (o : Option HeaderField) → k ≡ get_or b 48 0 → z ≡ zeros_in l b
+    → bytes_eq (name_in b) (name_of l) ≡ true → (leb LEAST_SIZE k && leb k GREATEST_SIZE) ≡ true → list_all (λ x. eqb x 0) z ≡ true
+    → first_found (unless (leb (two_at b 49) (memo_of l)) Memo ∷ unless (list_all (λ (c : Column). leb c.count (2 ^ (get_or b 48 0 + 1))) (header_in b).columns) Counts ∷ []) ≡ o → header_fault l b ≡ o
 unfolding header_fault header_in
-fault_rest l b z k most cs o e f g h n s t r =
-    skip _ _ _ _ n (skip _ _ _ _ (ap (λ k. leb LEAST_SIZE k && leb k GREATEST_SIZE) (sym e) ∙ s) (skip _ _ _ _ (ap (list_all (λ x. eqb x 0)) (sym f) ∙ t)
+fault_later l b z k o e f n s t r =
+    skip _ _ _ _ n (skip _ _ _ _ (ap (λ k. leb LEAST_SIZE k && leb k GREATEST_SIZE) (sym e) ∙ s) (skip _ _ _ _ (ap (list_all (λ x. eqb x 0)) (sym f) ∙ t) r))
+
+pub fault_memo : (l : Layout) (b z : List ℕ) (k : ℕ) → k ≡ get_or b 48 0 → z ≡ zeros_in l b → bytes_eq (name_in b) (name_of l) ≡ true → (leb LEAST_SIZE k && leb k GREATEST_SIZE) ≡ true
+    → list_all (λ x. eqb x 0) z ≡ true → leb (two_at b 49) (memo_of l) ≡ false → header_fault l b ≡ Some Memo
+fault_memo l b z k e f n s t u = fault_later l b z k (Some Memo) e f n s t (first_fails _ _ _ u)
+
+fault_rest : (l : Layout) (b z : List ℕ) (k most : ℕ) (cs : List Column) (o : Option HeaderField) → k ≡ get_or b 48 0 → z ≡ zeros_in l b → cs ≡ (header_in b).columns → most ≡ 2 ^ (k + 1)
+    → bytes_eq (name_in b) (name_of l) ≡ true → (leb LEAST_SIZE k && leb k GREATEST_SIZE) ≡ true → list_all (λ x. eqb x 0) z ≡ true → leb (two_at b 49) (memo_of l) ≡ true
+    → first_found (unless (list_all (λ (c : Column). leb c.count most) cs) Counts ∷ []) ≡ o → header_fault l b ≡ o
+fault_rest l b z k most cs o e f g h n s t m r =
+    fault_later l b z k o e f n s t (skip _ _ _ _ m
     (ap (λ m. first_found (unless (list_all (λ (c : Column). leb c.count m) (header_in b).columns) Counts ∷ [])) (ap (λ j. 2 ^ (j + 1)) (sym e) ∙ sym h)
-    ∙ (ap (λ ds. first_found (unless (list_all (λ (c : Column). leb c.count most) ds) Counts ∷ [])) (sym g) ∙ r))))
+    ∙ (ap (λ ds. first_found (unless (list_all (λ (c : Column). leb c.count most) ds) Counts ∷ [])) (sym g) ∙ r)))
 
-pub fault_counts : (l : Layout) (b z : List ℕ) (k most : ℕ) (cs : List Column) → k ≡ get_or b 48 0 → z ≡ zeros_in b → cs ≡ (header_in b).columns → most ≡ 2 ^ (k + 1)
-    → bytes_eq (name_in b) l.name ≡ true → (leb LEAST_SIZE k && leb k GREATEST_SIZE) ≡ true → list_all (λ x. eqb x 0) z ≡ true
+pub fault_counts : (l : Layout) (b z : List ℕ) (k most : ℕ) (cs : List Column) → k ≡ get_or b 48 0 → z ≡ zeros_in l b → cs ≡ (header_in b).columns → most ≡ 2 ^ (k + 1)
+    → bytes_eq (name_in b) (name_of l) ≡ true → (leb LEAST_SIZE k && leb k GREATEST_SIZE) ≡ true → list_all (λ x. eqb x 0) z ≡ true → leb (two_at b 49) (memo_of l) ≡ true
     → list_all (λ (c : Column). leb c.count most) cs ≡ false → header_fault l b ≡ Some Counts
-fault_counts l b z k most cs e f g h n s t u = fault_rest l b z k most cs (Some Counts) e f g h n s t (first_fails _ _ _ u)
+fault_counts l b z k most cs e f g h n s t m u = fault_rest l b z k most cs (Some Counts) e f g h n s t m (first_fails _ _ _ u)
 
-pub fault_none : (l : Layout) (b z : List ℕ) (k most : ℕ) (cs : List Column) → k ≡ get_or b 48 0 → z ≡ zeros_in b → cs ≡ (header_in b).columns → most ≡ 2 ^ (k + 1)
-    → bytes_eq (name_in b) l.name ≡ true → (leb LEAST_SIZE k && leb k GREATEST_SIZE) ≡ true → list_all (λ x. eqb x 0) z ≡ true
+pub fault_none : (l : Layout) (b z : List ℕ) (k most : ℕ) (cs : List Column) → k ≡ get_or b 48 0 → z ≡ zeros_in l b → cs ≡ (header_in b).columns → most ≡ 2 ^ (k + 1)
+    → bytes_eq (name_in b) (name_of l) ≡ true → (leb LEAST_SIZE k && leb k GREATEST_SIZE) ≡ true → list_all (λ x. eqb x 0) z ≡ true → leb (two_at b 49) (memo_of l) ≡ true
     → list_all (λ (c : Column). leb c.count most) cs ≡ true → header_fault l b ≡ None
-fault_none l b z k most cs e f g h n s t u = fault_rest l b z k most cs None e f g h n s t (first_holds _ _ [] u)
+fault_none l b z k most cs e f g h n s t m u = fault_rest l b z k most cs None e f g h n s t m (first_holds _ _ [] u)
 
-pub header_from : (i i' : List ℕ) (k k' : ℕ) (cs cs' : List Column) (n n' : ℕ) → i ≡ i' → k ≡ k' → cs ≡ cs' → n ≡ n'
-    → ◌≡◌ {A = Header} (record { id = record { 0 = i }; size = k; columns = cs; file_length = n }) (record { id = record { 0 = i' }; size = k'; columns = cs'; file_length = n' })
-header_from i i' k k' cs cs' n n' ei ek ec en = rw (ei, ek, ec, en) refl
+pub header_from : (l l' : Layout) (i i' : List ℕ) (k k' m m' : ℕ) (cs cs' : List Column) (n n' : ℕ) → l ≡ l' → i ≡ i' → k ≡ k' → m ≡ m' → cs ≡ cs' → n ≡ n'
+    → ◌≡◌ {A = Header} (record { layout = l; id = record { 0 = i }; size = k; memo_length = m; columns = cs; file_length = n })
+    (record { layout = l'; id = record { 0 = i' }; size = k'; memo_length = m'; columns = cs'; file_length = n' })
+header_from l l' i i' k k' m m' cs cs' n n' el ei ek em ec en = rw (el, ei, ek, em, ec, en) refl
 
-pub most_is : (k : ℕ) → k ≤ 32 → 1 * 2 ^ (k + 1) % 2 ^ 64 ≡ 2 ^ (k + 1)
+pub most_is : (k : ℕ) → k ≤ 50 → 1 * 2 ^ (k + 1) % 2 ^ 64 ≡ 2 ^ (k + 1)
 most_is k h = one_shl (k + 1) 64 (omega arith)

@@ -10,18 +10,17 @@ use Rattle.std.proofs.lemmas.Option.{none-some, same_Some}
 use Rattle.pos_layout.specs.declared.header.Column.{Column}
 use Rattle.pos_layout.specs.declared.header.Header.{Header}
 use Rattle.pos_layout.specs.declared.damage.HeaderField.{HeaderField}
-use Rattle.pos_layout.specs.declared.damage.HeaderField.TheVariants.{Name, Size, Zeros, Counts}
+use Rattle.pos_layout.specs.declared.damage.HeaderField.TheVariants.{Name, Size, Zeros, Memo, Counts}
 use Rattle.pos_layout.specs.declared.damage.Damage.{Damage}
 use Rattle.pos_layout.specs.declared.damage.Damage.TheVariants.{NotOpen, Header as WrongHeader, Length, Directory}
 use Rattle.pos_layout.specs.declared.header.TheConstants.{HEADER_BYTES, LEAST_SIZE, GREATEST_SIZE}
-use Rattle.pos_layout.specs.Layouts.{Layout}
+use Rattle.pos_layout.specs.Layouts.{Layout, name_of, memo_of, zeros_of}
 use Rattle.pos_layout.specs.Fields.{gate_in, name_in, zeros_in, header_in, count_of, end_of}
 use Rattle.pos_layout.specs.Rules.{IsPlaced}
-use Rattle.pos_layout.specs.Causes.{IsGated, IsSize, AreCounts, FieldCause, PlaceCause, OpeningCause}
+use Rattle.pos_layout.specs.Causes.{IsGated, IsSize, IsZeroed, IsShortMemo, AreCounts, FieldCause, PlaceCause, OpeningCause}
 use Rattle.pos_layout.specs.Damages.{unless, first_found, header_fault, is_placed, place_fault, directory_fault, opening}
-use Rattle.pos_layout.proofs.CodecLemmas.{length-part}
 use Rattle.pos_layout.proofs.FilePlots.{no_column, column_of-suc, each}
-use Rattle.pos_layout.proofs.FileOpening.{leb-le, le-leb, eqb-eq, eq-eqb, both_true, list_all-get, list_all-of, zeros_are, are_zeros, seven_columns, header_is_right, right_header, placed_is, is_placed_by, map_none}
+use Rattle.pos_layout.proofs.FileOpening.{length-zeros, leb-le, le-leb, eqb-eq, eq-eqb, both_true, list_all-get, list_all-of, zeros_are, are_zeros, seven_columns, header_is_right, right_header, placed_is, is_placed_by, map_none}
 
 -- ---- one test after another
 
@@ -55,8 +54,11 @@ size_decides k = (
   λ p. both_true (leb LEAST_SIZE k) (leb k GREATEST_SIZE) (le-leb LEAST_SIZE k p.0) (le-leb k GREATEST_SIZE p.1),
 )
 
-zeros_decide : (xs : List ℕ) → length xs ≡ 7 → Decides (list_all (λ x. eqb x 0) xs) (xs ≡ replicate 7 0)
-zeros_decide xs n = (λ h. zeros_are xs 7 n h, λ e. ap (list_all (λ x. eqb x 0)) e ∙ are_zeros 7)
+zeros_decide : (xs : List ℕ) (n : ℕ) → length xs ≡ n → Decides (list_all (λ x. eqb x 0) xs) (xs ≡ replicate n 0)
+zeros_decide xs n e = (λ h. zeros_are xs n e h, λ same. ap (list_all (λ x. eqb x 0)) same ∙ are_zeros n)
+
+memo_decides : (l : Layout) (h : Header) → Decides (leb h.memo_length (memo_of l)) (IsShortMemo l h)
+memo_decides l h = (leb-le h.memo_length (memo_of l), le-leb h.memo_length (memo_of l))
 
 counts_decide : (b : List ℕ) → Decides (list_all (λ (c : Column). leb c.count (2 ^ ((header_in b).size + 1))) (header_in b).columns) (AreCounts (header_in b))
 counts_decide b = (into, back)
@@ -87,39 +89,47 @@ equal_decides m n = (eqb-eq m n, eq-eqb m n)
 -- ---- the header
 
 module _ (l : Layout) (b : List ℕ) (long : HEADER_BYTES ≤ length b) where
-  zeros_length : length (zeros_in b) ≡ 7
-  zeros_length = length-part b 49 7 (omega arith)
+  zeros_right : Decides (list_all (λ x. eqb x 0) (zeros_in l b)) (IsZeroed l b)
+  zeros_right = zeros_decide (zeros_in l b) (zeros_of l) (length-zeros l b long)
 
   pub field_cause : (field : HeaderField) → header_fault l b ≡ Some field → FieldCause l b field
   unfolding header_fault
   field_cause field h =
       let k = (header_in b).size in
       let size_test = leb LEAST_SIZE k && leb k GREATEST_SIZE in
-      let zeros_test = list_all (λ x. eqb x 0) (zeros_in b) in
+      let zeros_test = list_all (λ x. eqb x 0) (zeros_in l b) in
+      let memo_test = leb (header_in b).memo_length (memo_of l) in
       let counts_test = list_all (λ (c : Column). leb c.count (2 ^ (k + 1))) (header_in b).columns in
       let C = FieldCause l b field in
       let last : List (Option HeaderField) = unless counts_test Counts ∷ [] in
-      let rest : List (Option HeaderField) = unless zeros_test Zeros ∷ last in
-      found_by (bytes_eq (name_in b) l.name) (name_in b ≡ l.name) Name field (unless size_test Size ∷ rest) C (bytes_eq-Decides (name_in b) l.name) h (λ bad e. subst (FieldCause l b) e bad) (λ name h1.
+      let later : List (Option HeaderField) = unless memo_test Memo ∷ last in
+      let rest : List (Option HeaderField) = unless zeros_test Zeros ∷ later in
+      found_by (bytes_eq (name_in b) (name_of l)) (name_in b ≡ name_of l) Name field (unless size_test Size ∷ rest) C (bytes_eq-Decides (name_in b) (name_of l)) h (λ bad e. subst (FieldCause l b) e bad) (λ name h1.
       found_by size_test (IsSize k) Size field rest C (size_decides k) h1 (λ bad e. subst (FieldCause l b) e (name, bad)) (λ size h2.
-      found_by zeros_test (zeros_in b ≡ replicate 7 0) Zeros field last C (zeros_decide (zeros_in b) zeros_length) h2 (λ bad e. subst (FieldCause l b) e (name, size, bad)) (λ zeros h3.
-      found_by counts_test (AreCounts (header_in b)) Counts field [] C (counts_decide b) h3 (λ bad e. subst (FieldCause l b) e (name, size, zeros, bad)) (λ counts h4. absurd (none-some field h4)))))
+      found_by zeros_test (IsZeroed l b) Zeros field later C zeros_right h2 (λ bad e. subst (FieldCause l b) e (name, size, bad)) (λ zeros h3.
+      found_by memo_test (IsShortMemo l (header_in b)) Memo field last C (memo_decides l (header_in b)) h3 (λ bad e. subst (FieldCause l b) e (name, size, zeros, bad)) (λ memo h4.
+      found_by counts_test (AreCounts (header_in b)) Counts field [] C (counts_decide b) h4 (λ bad e. subst (FieldCause l b) e (name, size, zeros, memo, bad)) (λ counts h5. absurd (none-some field h5))))))
 
   pub cause_field : (field : HeaderField) → FieldCause l b field → header_fault l b ≡ Some field
   unfolding header_fault
-  cause_field Name c = fails_now (bytes_eq (name_in b) l.name) (name_in b ≡ l.name) Name _ (bytes_eq-Decides (name_in b) l.name) c
+  cause_field Name c = fails_now (bytes_eq (name_in b) (name_of l)) (name_in b ≡ name_of l) Name _ (bytes_eq-Decides (name_in b) (name_of l)) c
   cause_field Size c =
       let k = (header_in b).size in
-      goes_on _ (name_in b ≡ l.name) Name _ _ (bytes_eq-Decides (name_in b) l.name) c.0 (fails_now (leb LEAST_SIZE k && leb k GREATEST_SIZE) (IsSize k) Size _ (size_decides k) c.1)
+      goes_on _ (name_in b ≡ name_of l) Name _ _ (bytes_eq-Decides (name_in b) (name_of l)) c.0 (fails_now (leb LEAST_SIZE k && leb k GREATEST_SIZE) (IsSize k) Size _ (size_decides k) c.1)
   cause_field Zeros c =
       let k = (header_in b).size in
-      goes_on _ (name_in b ≡ l.name) Name _ _ (bytes_eq-Decides (name_in b) l.name) c.0
-      (goes_on _ (IsSize k) Size _ _ (size_decides k) c.1 (fails_now (list_all (λ x. eqb x 0) (zeros_in b)) (zeros_in b ≡ replicate 7 0) Zeros _ (zeros_decide (zeros_in b) zeros_length) c.2))
+      goes_on _ (name_in b ≡ name_of l) Name _ _ (bytes_eq-Decides (name_in b) (name_of l)) c.0
+      (goes_on _ (IsSize k) Size _ _ (size_decides k) c.1 (fails_now (list_all (λ x. eqb x 0) (zeros_in l b)) (IsZeroed l b) Zeros _ zeros_right c.2))
+  cause_field Memo c =
+      let k = (header_in b).size in
+      goes_on _ (name_in b ≡ name_of l) Name _ _ (bytes_eq-Decides (name_in b) (name_of l)) c.0
+      (goes_on _ (IsSize k) Size _ _ (size_decides k) c.1 (goes_on _ (IsZeroed l b) Zeros _ _ zeros_right c.2
+      (fails_now (leb (header_in b).memo_length (memo_of l)) (IsShortMemo l (header_in b)) Memo _ (memo_decides l (header_in b)) c.3)))
   cause_field Counts c =
       let k = (header_in b).size in
-      goes_on _ (name_in b ≡ l.name) Name _ _ (bytes_eq-Decides (name_in b) l.name) c.0
-      (goes_on _ (IsSize k) Size _ _ (size_decides k) c.1 (goes_on _ (zeros_in b ≡ replicate 7 0) Zeros _ _ (zeros_decide (zeros_in b) zeros_length) c.2
-      (fails_now _ (AreCounts (header_in b)) Counts [] (counts_decide b) c.3)))
+      goes_on _ (name_in b ≡ name_of l) Name _ _ (bytes_eq-Decides (name_in b) (name_of l)) c.0
+      (goes_on _ (IsSize k) Size _ _ (size_decides k) c.1 (goes_on _ (IsZeroed l b) Zeros _ _ zeros_right c.2
+      (goes_on _ (IsShortMemo l (header_in b)) Memo _ _ (memo_decides l (header_in b)) c.3 (fails_now _ (AreCounts (header_in b)) Counts [] (counts_decide b) c.4))))
 
 -- ---- the directories
 

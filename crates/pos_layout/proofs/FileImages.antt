@@ -14,19 +14,19 @@ tiny_is_closed l b tiny opens = let n = opens.long in omega arith
 pub shut_is_closed : (l : Layout) (b : List ℕ) → IsShut (Some b) → Opens l b → ⊥
 shut_is_closed l b shut opens = let g = opens.gate in let z = shut.1 in omega arith
 
-gate_of_file : (l : Layout) (p : PlotLists) → get_or (file_of l p) 0 0 ≡ 1
+gate_of_file : (l : Layout) (memo : List ℕ) (p : PlotLists) → get_or (file_of l memo p) 0 0 ≡ 1
 unfolding file_with header_bytes
-gate_of_file l p = refl
+gate_of_file l memo p = refl
 
-pub but_gate_is_the_file : (l : Layout) (b : List ℕ) (p : PlotLists) → IsButGate (file_of l p) (Some b) → Opens l b → b ≡ file_of l p
-but_gate_is_the_file l b p but opens = ext_get_or 0 b (file_of l p) but.0 same
+pub but_gate_is_the_file : (l m : Layout) (b memo : List ℕ) (p : PlotLists) → IsButGate (file_of l memo p) (Some b) → Opens m b → b ≡ file_of l memo p
+but_gate_is_the_file l m b memo p but opens = ext_get_or 0 b (file_of l memo p) but.0 same
   where
-    same : (i : ℕ) → i < length b → get_or b i 0 ≡ get_or (file_of l p) i 0
-    same zero less = opens.gate ∙ sym (gate_of_file l p)
+    same : (i : ℕ) → i < length b → get_or b i 0 ≡ get_or (file_of l memo p) i 0
+    same zero less = opens.gate ∙ sym (gate_of_file l memo p)
     same (suc i) less = but.1 (suc i) (omega arith)
 
-pub image_is_the_file : (l : Layout) (b : List ℕ) (p : PlotLists) → IsTinyOrShut (Some b) ⊎ IsShutOr (file_of l p) (Some b) → Opens l b → b ≡ file_of l p
-image_is_the_file l b p (inl (inl tiny)) opens = absurd (tiny_is_closed l b tiny opens)
-image_is_the_file l b p (inl (inr shut)) opens = absurd (shut_is_closed l b shut opens)
-image_is_the_file l b p (inr (inl shut)) opens = absurd (shut_is_closed l b shut opens)
-image_is_the_file l b p (inr (inr but)) opens = but_gate_is_the_file l b p but opens
+pub image_is_the_file : (l m : Layout) (b memo : List ℕ) (p : PlotLists) → IsTinyOrShut (Some b) ⊎ IsShutOr (file_of l memo p) (Some b) → Opens m b → b ≡ file_of l memo p
+image_is_the_file l m b memo p (inl (inl tiny)) opens = absurd (tiny_is_closed m b tiny opens)
+image_is_the_file l m b memo p (inl (inr shut)) opens = absurd (shut_is_closed m b shut opens)
+image_is_the_file l m b memo p (inr (inl shut)) opens = absurd (shut_is_closed m b shut opens)
+image_is_the_file l m b memo p (inr (inr but)) opens = but_gate_is_the_file l m b memo p but opens

@@ -13,10 +13,11 @@ use Rattle.pos_rice.specs.Park.{AreNumbers}
 use Rattle.pos_layout.specs.declared.header.Column.{Column}
 use Rattle.pos_layout.specs.declared.entry.ParkEntry.{ParkEntry}
 use Rattle.pos_layout.specs.Bytes.{four, eight}
-use Rattle.pos_layout.specs.Layouts.{Layout, IsLayout, entry_bytes}
+use Rattle.pos_layout.specs.Layouts.{Layout, full_of, digest_of, entry_bytes}
 use Rattle.pos_layout.specs.Fields.{entry_fields}
 use Rattle.pos_layout.specs.Lists.{IsTable}
 use Rattle.pos_layout.specs.Files.{park_of, cut, parks_in, park_bytes, entry_for, directory, table_bytes, tables_bytes, columns_for}
+use Rattle.pos_layout.proofs.LayoutLemmas.{full_some, full_few, digest_few}
 use Rattle.pos_layout.proofs.NumberLemmas.{rising-take, rising-drop, All-take, All-drop, park_of-short}
 
 -- ---- one park more
@@ -145,9 +146,9 @@ cut-is k full (suc most) (n ∷ ns) f few fits rising below =
       each = All-cons (AreNumbers k) (take full (n ∷ ns)) (cut full most (drop full (n ∷ ns))) first rest.each;
     }
 
-pub parks_in-are : (l : Layout) (k : ℕ) (ns : List ℕ) → IsLayout l → IsTable k ns → AreCut k ns (parks_in l ns)
+pub parks_in-are : (l : Layout) (k : ℕ) (ns : List ℕ) → IsTable k ns → AreCut k ns (parks_in l ns)
 unfolding parks_in
-parks_in-are l k ns layout table = let s = layout.some in cut-is k l.full (length ns) ns (omega arith) layout.few (omega arith) table.rising table.below
+parks_in-are l k ns table = let s = full_some l in cut-is k (full_of l) (length ns) ns (omega arith) (full_few l) (omega arith) table.rising table.below
 
 -- ---- how long it gets
 
@@ -156,10 +157,10 @@ unfolding entry_fields four eight
 length-entry_fields e =
     omega (arith, length-append e.digest (to_be_bytes w64 e.head))
 
-pub length-entry_for : (l : Layout) (k t at : ℕ) (ns : List ℕ) → IsLayout l → length (entry_fields (entry_for l k t at ns)) ≡ entry_bytes l
+pub length-entry_for : (l : Layout) (k t at : ℕ) (ns : List ℕ) → length (entry_fields (entry_for l k t at ns)) ≡ entry_bytes l
 unfolding entry_for
-length-entry_for l k t at ns layout =
-    let d : length (take l.digest (sha256 (park_of k ns))) ≡ l.digest = length-take-le l.digest (sha256 (park_of k ns)) (let e = length-sha256 (park_of k ns) in let s = layout.digest in omega arith) in
+length-entry_for l k t at ns =
+    let d : length (take (digest_of l) (sha256 (park_of k ns))) ≡ digest_of l = length-take-le (digest_of l) (sha256 (park_of k ns)) (let e = length-sha256 (park_of k ns) in let s = digest_few l in omega arith) in
     length-entry_fields (entry_for l k t at ns) ∙ ap (λ j. 24 + j) d
 
 pub park_bytes-short : (k : ℕ) (parks : List (List ℕ)) → k ≤ 50 → All (AreNumbers k) parks → length (park_bytes k parks) ≤ 15 * length (concat parks)
@@ -170,33 +171,33 @@ park_bytes-short k (p ∷ parks) small all =
     let rest = park_bytes-short k parks small (All-tail (AreNumbers k) p parks all) in
     omega (arith, length-append (park_of k p) (park_bytes k parks), length-append p (concat parks))
 
-pub directory-short : (l : Layout) (k t at : ℕ) (parks : List (List ℕ)) → IsLayout l → All (AreNumbers k) parks → length (directory l k t at parks) ≤ 56 * length (concat parks)
+pub directory-short : (l : Layout) (k t at : ℕ) (parks : List (List ℕ)) → All (AreNumbers k) parks → length (directory l k t at parks) ≤ 56 * length (concat parks)
 unfolding directory
-directory-short l k t at [] layout all = omega arith
-directory-short l k t at (p ∷ parks) layout all =
+directory-short l k t at [] all = omega arith
+directory-short l k t at (p ∷ parks) all =
     let first = (All-head (AreNumbers k) p parks all).some in
-    let one = length-entry_for l k t at p layout in
-    let small = layout.digest in
-    let rest = directory-short l k t (at + length (park_of k p)) parks layout (All-tail (AreNumbers k) p parks all) in
+    let one = length-entry_for l k t at p in
+    let small = digest_few l in
+    let rest = directory-short l k t (at + length (park_of k p)) parks (All-tail (AreNumbers k) p parks all) in
     omega (arith, length-append (entry_fields (entry_for l k t at p)) (directory l k t (at + length (park_of k p)) parks), length-append p (concat parks))
 
-pub table_bytes-short : (l : Layout) (k t at : ℕ) (ns : List ℕ) → IsLayout l → k ≤ 50 → IsTable k ns → length (table_bytes l k t at ns) ≤ 71 * length ns
+pub table_bytes-short : (l : Layout) (k t at : ℕ) (ns : List ℕ) → k ≤ 50 → IsTable k ns → length (table_bytes l k t at ns) ≤ 71 * length ns
 unfolding table_bytes
-table_bytes-short l k t at ns layout small table =
-    let c = parks_in-are l k ns layout table in
+table_bytes-short l k t at ns small table =
+    let c = parks_in-are l k ns table in
     let n = ap length c.whole in
     let a = park_bytes-short k (parks_in l ns) small c.each in
-    let b = directory-short l k t at (parks_in l ns) layout c.each in
+    let b = directory-short l k t at (parks_in l ns) c.each in
     omega (arith, length-append (park_bytes k (parks_in l ns)) (directory l k t at (parks_in l ns)))
 
-pub tables_bytes-short : (l : Layout) (k t at : ℕ) (tables : List (List ℕ)) → IsLayout l → k ≤ 50 → All (IsTable k) tables
+pub tables_bytes-short : (l : Layout) (k t at : ℕ) (tables : List (List ℕ)) → k ≤ 50 → All (IsTable k) tables
     → length (tables_bytes l k t at tables) ≤ 71 * (length tables * 2 ^ (k + 1))
 unfolding tables_bytes
-tables_bytes-short l k t at [] layout small all = omega arith
-tables_bytes-short l k t at (ns ∷ tables) layout small all =
+tables_bytes-short l k t at [] small all = omega arith
+tables_bytes-short l k t at (ns ∷ tables) small all =
     let table = All-head (IsTable k) ns tables all in
     let few = table.few in
-    let one = table_bytes-short l k t at ns layout small table in
-    let rest = tables_bytes-short l k (suc t) (at + length (table_bytes l k t at ns)) tables layout small (All-tail (IsTable k) ns tables all) in
+    let one = table_bytes-short l k t at ns small table in
+    let rest = tables_bytes-short l k (suc t) (at + length (table_bytes l k t at ns)) tables small (All-tail (IsTable k) ns tables all) in
     let m : suc (length tables) * 2 ^ (k + 1) ≡ length tables * 2 ^ (k + 1) + 2 ^ (k + 1) = suc-mul (length tables) (2 ^ (k + 1)) in
     omega (arith, length-append (table_bytes l k t at ns) (tables_bytes l k (suc t) (at + length (table_bytes l k t at ns)) tables))

@@ -10,15 +10,16 @@ use Rattle.std.proofs.lemmas.Option.{none-some}
 use Rattle.pos_layout.specs.declared.header.Column.{Column}
 use Rattle.pos_layout.specs.declared.header.Header.{Header}
 use Rattle.pos_layout.specs.declared.damage.HeaderField.{HeaderField}
-use Rattle.pos_layout.specs.declared.damage.HeaderField.TheVariants.{Name, Size, Zeros, Counts}
+use Rattle.pos_layout.specs.declared.damage.HeaderField.TheVariants.{Name, Size, Zeros, Memo, Counts}
 use Rattle.pos_layout.specs.declared.damage.Damage.{Damage}
 use Rattle.pos_layout.specs.declared.damage.Damage.TheVariants.{NotOpen, Header as WrongHeader, Length, Directory}
 use Rattle.pos_layout.specs.declared.header.TheConstants.{HEADER_BYTES, LEAST_SIZE, GREATEST_SIZE}
-use Rattle.pos_layout.specs.Layouts.{Layout}
+use Rattle.pos_layout.specs.Layouts.{Layout, name_of, memo_of, zeros_of}
 use Rattle.pos_layout.specs.Fields.{gate_in, name_in, zeros_in, header_in, count_of, directory_of, end_of}
 use Rattle.pos_layout.specs.Rules.{IsPlaced, Opens}
 use Rattle.pos_layout.specs.Causes.{HasRightHeader}
 use Rattle.pos_layout.specs.Damages.{unless, first_found, header_fault, is_placed, place_fault, directory_fault, opening}
+use Rattle.pos_layout.proofs.LayoutLemmas.{zeros_few}
 use Rattle.pos_layout.proofs.CodecLemmas.{length-part}
 use Rattle.pos_layout.proofs.FilePlots.{no_column, column_of-suc, each}
 
@@ -86,15 +87,19 @@ are_zeros (suc n) = are_zeros n
 
 -- ---- the header
 
+pub length-zeros : (l : Layout) (b : List ℕ) → HEADER_BYTES ≤ length b → length (zeros_in l b) ≡ zeros_of l
+length-zeros l b long = let few = zeros_few l in length-part b (56 - zeros_of l) (zeros_of l) (omega arith)
+
 pub seven_columns : (b : List ℕ) → length (header_in b).columns ≡ 7
 unfolding header_in
 seven_columns b = refl
 
 abbrev header_tests : Layout → List ℕ → List (Option HeaderField)
 header_tests l b =
-    unless (bytes_eq (name_in b) l.name) Name
+    unless (bytes_eq (name_in b) (name_of l)) Name
     ∷ unless (leb LEAST_SIZE (header_in b).size && leb (header_in b).size GREATEST_SIZE) Size
-    ∷ unless (list_all (λ x. eqb x 0) (zeros_in b)) Zeros
+    ∷ unless (list_all (λ x. eqb x 0) (zeros_in l b)) Zeros
+    ∷ unless (leb (header_in b).memo_length (memo_of l)) Memo
     ∷ unless (list_all (λ (c : Column). leb c.count (2 ^ ((header_in b).size + 1))) (header_in b).columns) Counts
     ∷ []
 
@@ -105,11 +110,12 @@ header_is_right l b long h =
     let size = unless_none (leb LEAST_SIZE (header_in b).size && leb (header_in b).size GREATEST_SIZE) Size a.1.0 in
     let sizes = and_parts (leb LEAST_SIZE (header_in b).size) (leb (header_in b).size GREATEST_SIZE) size in
     let most = 2 ^ ((header_in b).size + 1) in
-    let counts = unless_none (list_all (λ (c : Column). leb c.count most) (header_in b).columns) Counts a.1.1.1.0 in
+    let counts = unless_none (list_all (λ (c : Column). leb c.count most) (header_in b).columns) Counts a.1.1.1.1.0 in
     record {
-      name = (bytes_eq-Decides (name_in b) l.name).0 (unless_none (bytes_eq (name_in b) l.name) Name a.0);
+      name = (bytes_eq-Decides (name_in b) (name_of l)).0 (unless_none (bytes_eq (name_in b) (name_of l)) Name a.0);
       size = (leb-le LEAST_SIZE (header_in b).size sizes.0, leb-le (header_in b).size GREATEST_SIZE sizes.1);
-      zeros = zeros_are (zeros_in b) 7 (length-part b 49 7 (omega arith)) (unless_none (list_all (λ x. eqb x 0) (zeros_in b)) Zeros a.1.1.0);
+      zeros = zeros_are (zeros_in l b) (zeros_of l) (length-zeros l b long) (unless_none (list_all (λ x. eqb x 0) (zeros_in l b)) Zeros a.1.1.0);
+      memo = leb-le (header_in b).memo_length (memo_of l) (unless_none (leb (header_in b).memo_length (memo_of l)) Memo a.1.1.1.0);
       counts = each (λ t. count_of (header_in b) t ≤ most) (λ s less.
           let n = seven_columns b in
           let t = list_all-get (λ (c : Column). leb c.count most) (header_in b).columns s no_column counts (omega arith) in
@@ -121,17 +127,20 @@ unfolding header_fault
 right_header l b h =
     let most = 2 ^ ((header_in b).size + 1) in
     none_all (header_tests l b) (
-      none_unless (bytes_eq (name_in b) l.name) Name ((bytes_eq-Decides (name_in b) l.name).1 h.name),
+      none_unless (bytes_eq (name_in b) (name_of l)) Name ((bytes_eq-Decides (name_in b) (name_of l)).1 h.name),
       (
         none_unless (leb LEAST_SIZE (header_in b).size && leb (header_in b).size GREATEST_SIZE) Size (both_true _ _ (le-leb LEAST_SIZE (header_in b).size h.size.0) (le-leb (header_in b).size GREATEST_SIZE h.size.1)),
         (
-          none_unless (list_all (λ x. eqb x 0) (zeros_in b)) Zeros (ap (list_all (λ x. eqb x 0)) h.zeros ∙ are_zeros 7),
+          none_unless (list_all (λ x. eqb x 0) (zeros_in l b)) Zeros (ap (list_all (λ x. eqb x 0)) h.zeros ∙ are_zeros (zeros_of l)),
           (
-            none_unless (list_all (λ (c : Column). leb c.count most) (header_in b).columns) Counts
-                (list_all-of (λ (c : Column). leb c.count most) (header_in b).columns no_column (λ s less.
-                let n = seven_columns b in
-                le-leb (get_or (header_in b).columns s no_column).count most (subst (λ (c : Column). c.count ≤ most) (column_of-suc (header_in b) s) (h.counts (suc s) (omega arith) (omega arith))))),
-            tt,
+            none_unless (leb (header_in b).memo_length (memo_of l)) Memo (le-leb (header_in b).memo_length (memo_of l) h.memo),
+            (
+              none_unless (list_all (λ (c : Column). leb c.count most) (header_in b).columns) Counts
+                  (list_all-of (λ (c : Column). leb c.count most) (header_in b).columns no_column (λ s less.
+                  let n = seven_columns b in
+                  le-leb (get_or (header_in b).columns s no_column).count most (subst (λ (c : Column). c.count ≤ most) (column_of-suc (header_in b) s) (h.counts (suc s) (omega arith) (omega arith))))),
+              tt,
+            ),
           ),
         ),
       ),
@@ -242,13 +251,13 @@ opens_where_nothing l b h =
       name = right.name;
       zeros = right.zeros;
       said = eqb-eq (header_in b).file_length (length b) (unless_none (eqb (header_in b).file_length (length b)) (Length (header_in b).file_length (length b)) a.1.1.0);
-      laid_out = record { least = right.size.0; greatest = right.size.1; counts = right.counts; placed = laid.placed; whole = laid.whole };
+      laid_out = record { least = right.size.0; greatest = right.size.1; memo = right.memo; counts = right.counts; placed = laid.placed; whole = laid.whole };
     }
 
 pub nothing_where_opens : (l : Layout) (b : List ℕ) → Opens l b → opening l b (length b) ≡ None
 unfolding opening
 nothing_where_opens l b h =
-    let right = right_header l b (record { name = h.name; size = (h.laid_out.least, h.laid_out.greatest); zeros = h.zeros; counts = h.laid_out.counts }) in
+    let right = right_header l b (record { name = h.name; size = (h.laid_out.least, h.laid_out.greatest); zeros = h.zeros; memo = h.laid_out.memo; counts = h.laid_out.counts }) in
     none_all (opening_tests l b (length b)) (
       none_unless (leb HEADER_BYTES (length b) && eqb (gate_in b) 1) (NotOpen (length b) (gate_in b)) (both_true _ _ (le-leb HEADER_BYTES (length b) h.long) (eq-eqb (gate_in b) 1 h.gate)),
       (

@@ -7,7 +7,7 @@ use Rattle.std.proofs.lemmas.List.Elements.{All-get_or}
 use Rattle.std.proofs.Math.Nat.{div-eq_of_lt-le}
 use Rattle.pos_rice.specs.Park.{AreNumbers}
 use Rattle.pos_layout.specs.Bytes.{part}
-use Rattle.pos_layout.specs.Layouts.{Layout, IsLayout, entry_bytes, parks_of}
+use Rattle.pos_layout.specs.Layouts.{Layout, full_of, entry_bytes, parks_of}
 use Rattle.pos_layout.specs.Lists.{IsTable}
 use Rattle.pos_layout.specs.Fields.{entry_fields}
 use Rattle.pos_layout.specs.Files.{park_of, cut, parks_in, park_bytes, entry_for, directory}
@@ -57,9 +57,9 @@ cut-count full (suc most) (n ∷ ns) some h =
         let b = rest.needed in
         record { enough = omega arith; needed = omega arith; none = λ e. absurd (omega arith) }
 
-pub parks_in-get : (l : Layout) (ns : List ℕ) (j : ℕ) → 1 ≤ l.full → get_or (parks_in l ns) j [] ≡ part ns (l.full * j) l.full
+pub parks_in-get : (l : Layout) (ns : List ℕ) (j : ℕ) → 1 ≤ full_of l → get_or (parks_in l ns) j [] ≡ part ns (full_of l * j) (full_of l)
 unfolding parks_in
-parks_in-get l ns j some = cut-get l.full (length ns) ns j some (omega arith)
+parks_in-get l ns j some = cut-get (full_of l) (length ns) ns j some (omega arith)
 
 -- ---- numbers of one park
 
@@ -69,17 +69,17 @@ length-part_of ns at n = length-take n (drop at ns) ∙ ap (min n) (length-drop 
 
 -- ---- how many parks there are, and how long they are
 
-pub length-parks_in : (l : Layout) (ns : List ℕ) → 1 ≤ l.full → length (parks_in l ns) ≡ parks_of l (length ns)
+pub length-parks_in : (l : Layout) (ns : List ℕ) → 1 ≤ full_of l → length (parks_in l ns) ≡ parks_of l (length ns)
 unfolding parks_in
 length-parks_in l ns some =
-    let c = cut-count l.full (length ns) ns some (omega arith) in
+    let c = cut-count (full_of l) (length ns) ns some (omega arith) in
     let a = c.enough in
     let b = c.needed in
-    sym (div-eq_of_lt-le {k = length (cut l.full (length ns) ns)} l.full {m = length ns + (l.full - 1)} (omega arith) (omega arith))
+    sym (div-eq_of_lt-le {k = length (cut (full_of l) (length ns) ns)} (full_of l) {m = length ns + (full_of l - 1)} (omega arith) (omega arith))
 
 -- so each has numbers that a park can hold
-pub parks_in-numbers : (l : Layout) (k : ℕ) (ns : List ℕ) (j : ℕ) → IsLayout l → IsTable k ns → j < length (parks_in l ns) → AreNumbers k (get_or (parks_in l ns) j [])
-parks_in-numbers l k ns j layout table h = All-get_or (AreNumbers k) (parks_in l ns) j [] h (parks_in-are l k ns layout table).each
+pub parks_in-numbers : (l : Layout) (k : ℕ) (ns : List ℕ) (j : ℕ) → IsTable k ns → j < length (parks_in l ns) → AreNumbers k (get_or (parks_in l ns) j [])
+parks_in-numbers l k ns j table h = All-get_or (AreNumbers k) (parks_in l ns) j [] h (parks_in-are l k ns table).each
 
 cut-concat : (full most : ℕ) (ns : List ℕ) → 1 ≤ full → length ns ≤ most → concat (cut full most ns) ≡ ns
 unfolding cut
@@ -90,9 +90,9 @@ cut-concat full (suc most) (n ∷ ns) some h =
     let less : length (drop full (n ∷ ns)) ≤ most = simp length-drop (omega arith) in
     ap (λ z. take full (n ∷ ns) ++ z) (cut-concat full most (drop full (n ∷ ns)) some less) ∙ take-append-drop full (n ∷ ns)
 
-pub concat-parks_in : (l : Layout) (ns : List ℕ) → 1 ≤ l.full → concat (parks_in l ns) ≡ ns
+pub concat-parks_in : (l : Layout) (ns : List ℕ) → 1 ≤ full_of l → concat (parks_in l ns) ≡ ns
 unfolding parks_in
-concat-parks_in l ns some = cut-concat l.full (length ns) ns some (omega arith)
+concat-parks_in l ns some = cut-concat (full_of l) (length ns) ns some (omega arith)
 
 -- ---- where parks begin that stand one after another
 
@@ -137,36 +137,36 @@ parks_to b k at [] h = has_none b at
 parks_to b k at (ns ∷ parks) h =
     join b at (park_of k ns) _ (h 0 (omega arith)) (parks_to b k (at + length (park_of k ns)) parks (λ j l. h (suc j) (omega arith)))
 
-pub entries_from : (l : Layout) (b : List ℕ) (k t dir at : ℕ) (parks : List (List ℕ)) (j : ℕ) → IsLayout l → Has b dir (directory l k t at parks) → j < length parks
+pub entries_from : (l : Layout) (b : List ℕ) (k t dir at : ℕ) (parks : List (List ℕ)) (j : ℕ) → Has b dir (directory l k t at parks) → j < length parks
     → Has b (dir + entry_bytes l * j) (entry_fields (entry_for l k t (starts k at parks j) (get_or parks j [])))
 unfolding starts directory
-entries_from l b k t dir at [] j d h i = absurd (omega arith)
-entries_from l b k t dir at (ns ∷ parks) zero d h i =
+entries_from l b k t dir at [] j h i = absurd (omega arith)
+entries_from l b k t dir at (ns ∷ parks) zero h i =
     let e : dir ≡ dir + entry_bytes l * 0 = omega arith in
     has_at b _ _ _ e (has_front b dir (entry_fields (entry_for l k t at ns)) _ h)
-entries_from l b k t dir at (ns ∷ parks) (suc j) d h i =
-    let n = length-entry_for l k t at ns d in
+entries_from l b k t dir at (ns ∷ parks) (suc j) h i =
+    let n = length-entry_for l k t at ns in
     let e : dir + entry_bytes l + entry_bytes l * j ≡ dir + entry_bytes l * suc j = omega arith in
     let back : Has b (dir + entry_bytes l) (directory l k t (at + length (park_of k ns)) parks) = has_at b _ _ _ (ap (λ m. dir + m) n) (has_back b dir (entry_fields (entry_for l k t at ns)) _ h) in
-    has_at b _ _ _ e (entries_from l b k t (dir + entry_bytes l) (at + length (park_of k ns)) parks j d back (omega arith))
+    has_at b _ _ _ e (entries_from l b k t (dir + entry_bytes l) (at + length (park_of k ns)) parks j back (omega arith))
 
-pub entries_to : (l : Layout) (b : List ℕ) (k t dir at : ℕ) (parks : List (List ℕ)) → IsLayout l
+pub entries_to : (l : Layout) (b : List ℕ) (k t dir at : ℕ) (parks : List (List ℕ))
     → ((j : ℕ) → j < length parks → Has b (dir + entry_bytes l * j) (entry_fields (entry_for l k t (starts k at parks j) (get_or parks j []))))
     → Has b dir (directory l k t at parks)
 unfolding starts directory
-entries_to l b k t dir at [] d h = has_none b dir
-entries_to l b k t dir at (ns ∷ parks) d h =
-    let n = length-entry_for l k t at ns d in
+entries_to l b k t dir at [] h = has_none b dir
+entries_to l b k t dir at (ns ∷ parks) h =
+    let n = length-entry_for l k t at ns in
     let e0 : dir + entry_bytes l * 0 ≡ dir = omega arith in
     let each : (j : ℕ) → j < length parks → Has b (dir + entry_bytes l + entry_bytes l * j) (entry_fields (entry_for l k t (starts k (at + length (park_of k ns)) parks j) (get_or parks j []))) =
     λ j i. let e : dir + entry_bytes l * suc j ≡ dir + entry_bytes l + entry_bytes l * j = omega arith in has_at b _ _ _ e (h (suc j) (omega arith)) in
-    let back = entries_to l b k t (dir + entry_bytes l) (at + length (park_of k ns)) parks d each in
+    let back = entries_to l b k t (dir + entry_bytes l) (at + length (park_of k ns)) parks each in
     join b dir _ _ (has_at b _ _ _ e0 (h 0 (omega arith))) (has_at b _ _ _ (ap (λ m. dir + m) (sym n)) back)
 
-pub length-directory : (l : Layout) (k t at : ℕ) (parks : List (List ℕ)) → IsLayout l → length (directory l k t at parks) ≡ entry_bytes l * length parks
+pub length-directory : (l : Layout) (k t at : ℕ) (parks : List (List ℕ)) → length (directory l k t at parks) ≡ entry_bytes l * length parks
 unfolding directory
-length-directory l k t at [] d = omega arith
-length-directory l k t at (ns ∷ parks) d =
-    let n = length-entry_for l k t at ns d in
-    let m = length-directory l k t (at + length (park_of k ns)) parks d in
+length-directory l k t at [] = omega arith
+length-directory l k t at (ns ∷ parks) =
+    let n = length-entry_for l k t at ns in
+    let m = length-directory l k t (at + length (park_of k ns)) parks in
     simp length-append (omega arith)

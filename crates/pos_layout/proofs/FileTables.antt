@@ -13,7 +13,7 @@ use Rattle.pos_rice.specs.Park.{AreNumbers, Park}
 use Rattle.pos_rice.proofs.ParkLemmas.{Park-short, Park-one_list_of_numbers}
 use Rattle.pos_layout.specs.declared.header.Header.{Header}
 use Rattle.pos_layout.specs.declared.entry.ParkEntry.{ParkEntry}
-use Rattle.pos_layout.specs.Layouts.{Layout, IsLayout, entry_bytes, longest_park, parks_of}
+use Rattle.pos_layout.specs.Layouts.{Layout, full_of, digest_of, entry_bytes, longest_park, parks_of}
 use Rattle.pos_layout.specs.Lists.{IsTable}
 use Rattle.pos_lists.specs.PlotLists.{f7_in}
 use Rattle.pos_layout.specs.Fields.{header_in, count_of, directory_of, end_of, entry_in, entry_fields, park_in}
@@ -22,6 +22,7 @@ use Rattle.pos_layout.specs.Files.{park_of, parks_in, park_bytes, entry_for, dir
 use Rattle.pos_layout.proofs.CodecLemmas.{entry_from, length-part}
 use Rattle.pos_layout.proofs.FileParts.{Has, has_front, has_back, join, has_at, has_same, has_of}
 use Rattle.pos_layout.proofs.FileFields.{EntryFits, entry_read, entry_there}
+use Rattle.pos_layout.proofs.LayoutLemmas.{full_some, digest_few}
 use Rattle.pos_layout.proofs.NumberLemmas.{park_of-is, park_of-only, park_of-some, head_fits}
 use Rattle.pos_layout.proofs.FileParks.{parks_in-get, parks_in-numbers, length-parks_in, concat-parks_in, length-part_of, starts, starts-first, starts-next, starts-last, starts-le, parks_from, parks_to, entries_from, entries_to, length-directory}
 
@@ -31,22 +32,22 @@ pub record TableAt (l : Layout) (b : List ℕ) (s : ℕ) (ns : List ℕ) : Type 
   pub directory : directory_of (header_in b) (suc s) ≡ end_of l (header_in b) s + length (park_bytes (header_in b).size (parks_in l ns))
   pub bytes : Has b (end_of l (header_in b) s) (table_bytes l (header_in b).size (suc s) (end_of l (header_in b) s) ns)
 
-pub length-table_bytes : (l : Layout) (k t at : ℕ) (ns : List ℕ) → IsLayout l → length (table_bytes l k t at ns) ≡ length (park_bytes k (parks_in l ns)) + entry_bytes l * parks_of l (length ns)
+pub length-table_bytes : (l : Layout) (k t at : ℕ) (ns : List ℕ) → length (table_bytes l k t at ns) ≡ length (park_bytes k (parks_in l ns)) + entry_bytes l * parks_of l (length ns)
 unfolding table_bytes
-length-table_bytes l k t at ns layout =
-    let some = layout.some in
+length-table_bytes l k t at ns =
+    let some = full_some l in
     length-append (park_bytes k (parks_in l ns)) (directory l k t at (parks_in l ns))
-    ∙ ap (λ n. length (park_bytes k (parks_in l ns)) + n) (length-directory l k t at (parks_in l ns) layout ∙ ap (λ n. entry_bytes l * n) (length-parks_in l ns (omega arith)))
+    ∙ ap (λ n. length (park_bytes k (parks_in l ns)) + n) (length-directory l k t at (parks_in l ns) ∙ ap (λ n. entry_bytes l * n) (length-parks_in l ns (omega arith)))
 
 pub end_of-next : (l : Layout) (h : Header) (s : ℕ) → end_of l h (suc s) ≡ directory_of h (suc s) + entry_bytes l * parks_of l (count_of h (suc s))
 unfolding end_of
 end_of-next l h s = refl
 
-pub TableAt-end : (l : Layout) (b : List ℕ) (s : ℕ) (ns : List ℕ) → IsLayout l → TableAt l b s ns
+pub TableAt-end : (l : Layout) (b : List ℕ) (s : ℕ) (ns : List ℕ) → TableAt l b s ns
     → end_of l (header_in b) (suc s) ≡ end_of l (header_in b) s + length (table_bytes l (header_in b).size (suc s) (end_of l (header_in b) s) ns)
-TableAt-end l b s ns layout h =
+TableAt-end l b s ns h =
     let h0 = header_in b in
-    let n = length-table_bytes l h0.size (suc s) (end_of l h0 s) ns layout in
+    let n = length-table_bytes l h0.size (suc s) (end_of l h0 s) ns in
     let e = end_of-next l h0 s ∙ ap (λ c. directory_of h0 (suc s) + entry_bytes l * parks_of l c) h.count in
     let d = h.directory in
     omega arith
@@ -55,14 +56,13 @@ TableAt-end l b s ns layout h =
 
 -- what a table needs for that
 pub record TableFits (l : Layout) (b : List ℕ) (s : ℕ) (ns : List ℕ) : Type 0 where
-  pub layout : IsLayout l
   pub table : IsTable (header_in b).size ns
   pub small : (header_in b).size ≤ 50
   pub room : end_of l (header_in b) (suc s) < 2 ^ 64
   pub at : TableAt l b s ns
 
 fits-numbers : (l : Layout) (b : List ℕ) (s : ℕ) (ns : List ℕ) (j : ℕ) → TableFits l b s ns → j < length (parks_in l ns) → AreNumbers (header_in b).size (get_or (parks_in l ns) j [])
-fits-numbers l b s ns j h i = parks_in-numbers l (header_in b).size ns j h.layout h.table i
+fits-numbers l b s ns j h i = parks_in-numbers l (header_in b).size ns j h.table i
 
 fits-parks : (l : Layout) (b : List ℕ) (s : ℕ) (ns : List ℕ) → TableFits l b s ns → Has b (end_of l (header_in b) s) (park_bytes (header_in b).size (parks_in l ns))
 unfolding table_bytes
@@ -80,9 +80,9 @@ head-fits k t ns h numbers = cases (eqb t 7)
     cases true = let small = head_fits k ns h numbers in omega arith
     cases false = omega arith
 
-entry_for-fits : (l : Layout) (k t at : ℕ) (ns : List ℕ) → IsLayout l → k ≤ 50 → AreNumbers k ns → at < 2 ^ 64 → EntryFits l (entry_for l k t at ns)
+entry_for-fits : (l : Layout) (k t at : ℕ) (ns : List ℕ) → k ≤ 50 → AreNumbers k ns → at < 2 ^ 64 → EntryFits l (entry_for l k t at ns)
 unfolding entry_for
-entry_for-fits l k t at ns layout h numbers low =
+entry_for-fits l k t at ns h numbers low =
     let short = Park-short k ns (park_of k ns) (park_of-is k ns numbers) in
     let few = numbers.few in
     let wide : (2 * k + 4) * length ns ≤ 104 * length ns = mul-le-mul_right (length ns) (omega arith) in
@@ -90,7 +90,7 @@ entry_for-fits l k t at ns layout h numbers low =
       offset = low;
       park_length = omega arith;
       count = omega arith;
-      digest = length-take-le l.digest (sha256 (park_of k ns)) (omega (arith, length-sha256 (park_of k ns), layout.digest));
+      digest = length-take-le (digest_of l) (sha256 (park_of k ns)) (omega (arith, length-sha256 (park_of k ns), digest_few l));
       head = head-fits k t ns h numbers;
     }
 
@@ -104,8 +104,8 @@ fits-entry l b s ns j h i =
     let dir = h.at.directory in
     let next = end_of-next l (header_in b) s in
     let room = h.room in
-    entry_read l b _ _ (entry_for-fits l k (suc s) _ _ h.layout h.small (fits-numbers l b s ns j h i) (omega arith))
-    (entries_from l b k (suc s) (directory_of (header_in b) (suc s)) at (parks_in l ns) j h.layout (fits-directory l b s ns h) i)
+    entry_read l b _ _ (entry_for-fits l k (suc s) _ _ h.small (fits-numbers l b s ns j h i) (omega arith))
+    (entries_from l b k (suc s) (directory_of (header_in b) (suc s)) at (parks_in l ns) j (fits-directory l b s ns h) i)
 
 -- the park of the entry
 fits-park : (l : Layout) (b : List ℕ) (s : ℕ) (ns : List ℕ) (j : ℕ) → TableFits l b s ns → j < length (parks_in l ns)
@@ -130,21 +130,21 @@ fits-start l b s ns (suc j) h i =
     ap (λ (e : ParkEntry). e.offset + e.park_length) (fits-entry l b s ns j h (omega arith)) ∙ sym (starts-next k at (parks_in l ns) j (omega arith))
 
 -- a park within its limit
-pub park_of-within : (l : Layout) (k : ℕ) (ns : List ℕ) → IsLayout l → k ≤ 50 → AreNumbers k ns → length ns ≤ l.full → length (park_of k ns) ≤ longest_park l k
-park_of-within l k ns layout h numbers few =
+pub park_of-within : (l : Layout) (k : ℕ) (ns : List ℕ) → k ≤ 50 → AreNumbers k ns → length ns ≤ full_of l → length (park_of k ns) ≤ longest_park l k
+park_of-within l k ns h numbers few =
     let short = Park-short k ns (park_of k ns) (park_of-is k ns numbers) in
-    let some = layout.some in
+    let some = full_some l in
     cases (cases_lt 32 k) short
   where
     cases : 32 < k ⊎ k ≤ 32 → 8 * length (park_of k ns) ≤ (2 * k + 4) * length ns + 12 → length (park_of k ns) ≤ longest_park l k
     cases (inr low) short =
         let t : leb k 32 ≡ true = grind (arith, nat_tests) in
-        let some = layout.some in
+        let some = full_some l in
         let wide : (2 * k + 4) * length ns ≤ 68 * length ns = mul-le-mul_right (length ns) (omega arith) in
         rw t (omega arith)
     cases (inl high) short =
         let t : leb k 32 ≡ false = grind (arith, nat_tests) in
-        let some = layout.some in
+        let some = full_some l in
         let wide : (2 * k + 4) * length ns ≤ 104 * length ns = mul-le-mul_right (length ns) (omega arith) in
         rw t (omega arith)
 
@@ -158,8 +158,8 @@ stores_table l b s ns h = record {
   parks = λ j i. subst (λ ns'. StoresPark l b (suc s) ns' (entry_in l b (suc s) j)) (parks_in-get l ns j some) (park_there j (inside j i));
 }
   where
-    some : 1 ≤ l.full
-    some = let g = h.layout.some in omega arith
+    some : 1 ≤ full_of l
+    some = let g = full_some l in omega arith
 
     count : length (parks_in l ns) ≡ parks_of l (length ns)
     count = length-parks_in l ns some
@@ -174,13 +174,13 @@ stores_table l b s ns h = record {
         let e = fits-entry l b s ns j h i in
         let numbers = fits-numbers l b s ns j h i in
         let p = fits-park l b s ns j h i in
-        let few : length ns' ≤ l.full = omega (arith, ap length (parks_in-get l ns j some), length-part_of ns (l.full * j) l.full) in
+        let few : length ns' ≤ full_of l = omega (arith, ap length (parks_in-get l ns j some), length-part_of ns (full_of l * j) (full_of l)) in
         record {
           some = subst (λ n. 1 ≤ n) (sym (ap (λ (e : ParkEntry). e.park_length) e)) (park_of-some k ns' numbers);
-          short = subst (λ n. n ≤ longest_park l k) (sym (ap (λ (e : ParkEntry). e.park_length) e)) (park_of-within l k ns' h.layout h.small numbers few);
+          short = subst (λ n. n ≤ longest_park l k) (sym (ap (λ (e : ParkEntry). e.park_length) e)) (park_of-within l k ns' h.small numbers few);
           count = ap (λ (e : ParkEntry). e.count) e;
           head = ap (λ (e : ParkEntry). e.head) e;
-          digest = ap (λ (e : ParkEntry). e.digest) e ∙ ap (λ s. take l.digest (sha256 s)) (sym p);
+          digest = ap (λ (e : ParkEntry). e.digest) e ∙ ap (λ s. take (digest_of l) (sha256 s)) (sym p);
           park = subst (Park k ns') (sym p) (park_of-is k ns' numbers);
         }
 
@@ -190,9 +190,9 @@ All-concat P (ns ∷ parks) h = All-append P ns (concat parks) (h 0 (omega arith
 
 -- ---- from the rules to the bytes
 
-module _ (l : Layout) (b : List ℕ) (s : ℕ) (ns : List ℕ) (layout : IsLayout l) (bytes_ : AreBytes b) (room : end_of l (header_in b) (suc s) ≤ length b) (st : StoresTable l b (suc s) ns) where
-  some_full : 1 ≤ l.full
-  some_full = let g = layout.some in omega arith
+module _ (l : Layout) (b : List ℕ) (s : ℕ) (ns : List ℕ) (bytes_ : AreBytes b) (room : end_of l (header_in b) (suc s) ≤ length b) (st : StoresTable l b (suc s) ns) where
+  some_full : 1 ≤ full_of l
+  some_full = let g = full_some l in omega arith
 
   park_count_is : length (parks_in l ns) ≡ parks_of l (length ns)
   park_count_is = length-parks_in l ns some_full
@@ -256,7 +256,7 @@ module _ (l : Layout) (b : List ℕ) (s : ℕ) (ns : List ℕ) (layout : IsLayou
   entry-is j i =
       let e = entry_in l b (suc s) j in
       let p = stored j i in
-      entry_from e.offset _ e.park_length _ e.count _ e.digest _ e.head _ (offset-is j i) (length-is j i) p.count (p.digest ∙ ap (λ s. take l.digest (sha256 s)) (park-is j i)) p.head
+      entry_from e.offset _ e.park_length _ e.count _ e.digest _ e.head _ (offset-is j i) (length-is j i) p.count (p.digest ∙ ap (λ s. take (digest_of l) (sha256 s)) (park-is j i)) p.head
 
   entry-there : (j : ℕ) → j < length (parks_in l ns) → Has b (directory_of (header_in b) (suc s) + entry_bytes l * j) (entry_fields (entry_in l b (suc s) j))
   unfolding entry_in
@@ -266,7 +266,7 @@ module _ (l : Layout) (b : List ℕ) (s : ℕ) (ns : List ℕ) (layout : IsLayou
       entry_there l b (directory_of (header_in b) (suc s) + entry_bytes l * j) bytes_ (omega arith)
 
   entries_there : Has b (directory_of (header_in b) (suc s)) (directory l (header_in b).size (suc s) (end_of l (header_in b) s) (parks_in l ns))
-  entries_there = entries_to l b (header_in b).size (suc s) (directory_of (header_in b) (suc s)) (end_of l (header_in b) s) (parks_in l ns) layout
+  entries_there = entries_to l b (header_in b).size (suc s) (directory_of (header_in b) (suc s)) (end_of l (header_in b) s) (parks_in l ns)
       (λ j i. has_same b _ _ _ (ap entry_fields (entry-is j i)) (entry-there j i))
 
   pub table_there : TableAt l b s ns
@@ -287,12 +287,12 @@ module _ (l : Layout) (b : List ℕ) (s : ℕ) (ns : List ℕ) (layout : IsLayou
 
 -- ---- one list for a table
 
-pub one_table : (l : Layout) (b : List ℕ) (t : ℕ) (ms ns : List ℕ) → IsLayout l → (header_in b).size < 64 → StoresTable l b t ms → StoresTable l b t ns → ms ≡ ns
-one_table l b t ms ns layout small p q =
+pub one_table : (l : Layout) (b : List ℕ) (t : ℕ) (ms ns : List ℕ) → (header_in b).size < 64 → StoresTable l b t ms → StoresTable l b t ns → ms ≡ ns
+one_table l b t ms ns small p q =
     sym (concat-parks_in l ms some) ∙ (ap concat (ext_get_or [] (parks_in l ms) (parks_in l ns) count same) ∙ concat-parks_in l ns some)
   where
-    some : 1 ≤ l.full
-    some = let g = layout.some in omega arith
+    some : 1 ≤ full_of l
+    some = let g = full_some l in omega arith
 
     long : length ms ≡ length ns
     long = p.count ∙ sym q.count

@@ -13,6 +13,7 @@ pub mod FilePlots
 pub mod FileTables
 pub mod LawsPoints
 pub mod LawsThere
+pub mod LayoutLemmas
 pub mod NumberLemmas
 pub mod RangeLemmas
 pub mod ReadingLemmas

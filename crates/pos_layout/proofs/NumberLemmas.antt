@@ -15,7 +15,7 @@ use Rattle.pos_rice.specs.Park.{AreNumbers, IsLow, Park, mean_step, park_bits, s
 use Rattle.pos_rice.proofs.ParkLemmas.{far, Park-one_list_of_bytes, Park-short}
 use Rattle.sha2.specs.Sha256.{sha256}
 use Rattle.pos_layout.specs.declared.entry.ParkEntry.{ParkEntry}
-use Rattle.pos_layout.specs.Layouts.{Layout}
+use Rattle.pos_layout.specs.Layouts.{Layout, digest_of}
 use Rattle.pos_layout.specs.Rules.{head_of}
 use Rattle.pos_layout.specs.Files.{digits_to, low_bits, park_of, entry_for}
 use Rattle.pos_layout.proofs.CodecLemmas.{entry_from}
@@ -171,12 +171,12 @@ head_fits k ns small h =
     omega arith
 
 -- the entry that is made of a park is the one for its numbers
-pub entry_for-is : (l : Layout) (k t at : ℕ) (ns s d : List ℕ) (h : ℕ) → Park k ns s → d ≡ take l.digest (sha256 s) → h ≡ head_of k t ns
+pub entry_for-is : (l : Layout) (k t at : ℕ) (ns s d : List ℕ) (h : ℕ) → Park k ns s → d ≡ take (digest_of l) (sha256 s) → h ≡ head_of k t ns
     → ◌≡◌ {A = ParkEntry} (record { offset = at; park_length = length s; count = length ns; digest = d; head = h }) (entry_for l k t at ns)
 unfolding entry_for
 entry_for-is l k t at ns s d h p ed eh =
     let same = park_of-only k ns s p in
-    entry_from at at (length s) (length (park_of k ns)) (length ns) (length ns) d (take l.digest (sha256 (park_of k ns))) h (head_of k t ns) refl (ap length same) refl (ed ∙ ap (λ y. take l.digest (sha256 y)) same) eh
+    entry_from at at (length s) (length (park_of k ns)) (length ns) (length ns) d (take (digest_of l) (sha256 (park_of k ns))) h (head_of k t ns) refl (ap length same) refl (ed ∙ ap (λ y. take (digest_of l) (sha256 y)) same) eh
 
 -- a park has bytes
 park_bits-some : (k low : ℕ) (ns : List ℕ) → 1 ≤ length ns → 1 ≤ length (park_bits k low ns)

@@ -13,7 +13,7 @@ use Rattle.pos_layout.specs.declared.entry.ParkEntry.{ParkEntry}
 use Rattle.pos_layout.specs.declared.damage.Damage.{Damage}
 use Rattle.pos_layout.specs.declared.damage.Damage.TheVariants.{Pointer}
 use Rattle.pos_layout.specs.Bytes.{part}
-use Rattle.pos_layout.specs.Layouts.{own, longest_park, park_count}
+use Rattle.pos_layout.specs.Layouts.{Layout, full_of, digest_of, longest_park, park_count}
 use Rattle.pos_layout.specs.Fields.{count_of, directory_of, end_of, header_in}
 use Rattle.pos_layout.specs.Lists.{points_inside}
 use Rattle.pos_layout.specs.Reading.{tested, is_listed, is_headed, numbers_by, read_entry, read_park, num, head, under}
@@ -47,23 +47,23 @@ or_false true b e = absurd (false≢true (sym e))
 or_false false b e = refl
 
 -- where all else holds, the head decides
-pub listed_by_head : (h : Header) (t park : ℕ) (e : ParkEntry) → 1 ≤ e.park_length → e.park_length ≤ longest_park own h.size
-    → end_of own h (t - 1) ≤ e.offset → e.offset + e.park_length ≤ directory_of h t → e.count ≡ park_count own (count_of h t) park
-    → is_listed own h t park e ≡ ((t == 7) || (e.head == 0))
+pub listed_by_head : (l : Layout) (h : Header) (t park : ℕ) (e : ParkEntry) → 1 ≤ e.park_length → e.park_length ≤ longest_park l h.size
+    → end_of l h (t - 1) ≤ e.offset → e.offset + e.park_length ≤ directory_of h t → e.count ≡ park_count l (count_of h t) park
+    → is_listed l h t park e ≡ ((t == 7) || (e.head == 0))
 unfolding is_listed
-listed_by_head h t park e some short after inside count =
+listed_by_head l h t park e some short after inside count =
     and_true _ _ (both _ _ (both _ _ (both _ _ (le_true _ _ some) (le_true _ _ short)) (both _ _ (le_true _ _ after) (le_true _ _ inside))) (eq_true _ _ count))
 
-pub park_found : (b s : List ℕ) (h : Header) (t park : ℕ) (e : ParkEntry) → h ≡ header_in b → read_entry own b t park ≡ Ok e → s ≡ part b e.offset e.park_length → read_park own b t park ≡ numbers_by own h t park e s
+pub park_found : (l : Layout) (b s : List ℕ) (h : Header) (t park : ℕ) (e : ParkEntry) → h ≡ header_in b → read_entry l b t park ≡ Ok e → s ≡ part b e.offset e.park_length → read_park l b t park ≡ numbers_by l h t park e s
 unfolding read_park
-park_found b s h t park e same found are = rw (found, same, are) refl
+park_found l b s h t park e same found are = rw (found, same, are) refl
 
 pub same_bytes : (xs ys : List ℕ) → xs ≡ ys → bytes_eq xs ys ≡ true
 same_bytes xs ys e = (bytes_eq-Decides xs ys).1 e
 
-pub numbers-all : (h : Header) (t park : ℕ) (e : ParkEntry) (s ns : List ℕ) → bytes_eq (take 8 (sha256 s)) e.digest ≡ true → numbers_in h.size e.count s ≡ Some ns → is_headed h t e ns ≡ true → numbers_by own h t park e s ≡ Ok ns
+pub numbers-all : (l : Layout) (h : Header) (t park : ℕ) (e : ParkEntry) (s ns : List ℕ) → bytes_eq (take (digest_of l) (sha256 s)) e.digest ≡ true → numbers_in h.size e.count s ≡ Some ns → is_headed h t e ns ≡ true → numbers_by l h t park e s ≡ Ok ns
 unfolding numbers_by
-numbers-all h t park e s ns right some headed = rw (right, some, headed) refl
+numbers-all l h t park e s ns right some headed = rw (right, some, headed) refl
 
 pub headed_elsewhere : (h : Header) (t : ℕ) (e : ParkEntry) (ns : List ℕ) → t ≢ 7 → is_headed h t e ns ≡ true
 headed_elsewhere h t e ns apart = rw (eq_false t 7 apart) refl
@@ -79,19 +79,19 @@ pub pointed_first : (k t before n : ℕ) → t ≡ 1 → points_inside k t befor
 unfolding points_inside
 pointed_first k t before n one = rw one refl
 
-pub head_found : (b : List ℕ) (park : ℕ) (e : ParkEntry) → read_entry own b 7 park ≡ Ok e → head own b park ≡ Ok e.head
+pub head_found : (l : Layout) (b : List ℕ) (park : ℕ) (e : ParkEntry) → read_entry l b 7 park ≡ Ok e → head l b park ≡ Ok e.head
 unfolding head
-head_found b park e found = rw found refl
+head_found l b park e found = rw found refl
 
-pub num_found : (b ns : List ℕ) (h : Header) (t i : ℕ) → h ≡ header_in b → read_park own b t (i / 2048) ≡ Ok ns
-    → num own b t i ≡ tested (points_inside h.size t (count_of h (t - 1)) (slice_index ns (i % 2048))) (Pointer t i) (slice_index ns (i % 2048))
+pub num_found : (l : Layout) (b ns : List ℕ) (h : Header) (t i : ℕ) → h ≡ header_in b → read_park l b t (i / full_of l) ≡ Ok ns
+    → num l b t i ≡ tested (points_inside h.size t (count_of h (t - 1)) (slice_index ns (i % full_of l))) (Pointer t i) (slice_index ns (i % full_of l))
 unfolding num
-num_found b ns h t i same found = rw (found, same) refl
+num_found l b ns h t i same found = rw (found, same) refl
 
-pub under_found : (b ns : List ℕ) (h : Header) (park f7 : ℕ) → h ≡ header_in b → read_park own b 7 park ≡ Ok ns
-    → under own b park f7 ≡ Ok (count_by (λ n. nat_lt n (f7 * 2 ^ (h.size + 1))) ns)
+pub under_found : (l : Layout) (b ns : List ℕ) (h : Header) (park f7 : ℕ) → h ≡ header_in b → read_park l b 7 park ≡ Ok ns
+    → under l b park f7 ≡ Ok (count_by (λ n. nat_lt n (f7 * 2 ^ (h.size + 1))) ns)
 unfolding under
-under_found b ns h park f7 same found = rw (found, same) refl
+under_found l b ns h park f7 same found = rw (found, same) refl
 
 pub tested_true : {X : Type 0} (holds : Bool) (d : Damage) (x : X) → holds ≡ true → tested holds d x ≡ Ok x
 tested_true true d x e = refl

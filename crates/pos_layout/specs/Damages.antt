@@ -6,11 +6,11 @@ use Rattle.std.specs.Str.{bytes_eq}
 use Rattle.pos_layout.specs.declared.header.Column.{Column}
 use Rattle.pos_layout.specs.declared.header.Header.{Header}
 use Rattle.pos_layout.specs.declared.damage.HeaderField.{HeaderField}
-use Rattle.pos_layout.specs.declared.damage.HeaderField.TheVariants.{Name, Size, Zeros, Counts}
+use Rattle.pos_layout.specs.declared.damage.HeaderField.TheVariants.{Name, Size, Zeros, Memo, Counts}
 use Rattle.pos_layout.specs.declared.damage.Damage.{Damage}
 use Rattle.pos_layout.specs.declared.damage.Damage.TheVariants.{NotOpen, Header as WrongHeader, Length, Directory}
 use Rattle.pos_layout.specs.declared.header.TheConstants.{HEADER_BYTES, LEAST_SIZE, GREATEST_SIZE}
-use Rattle.pos_layout.specs.Layouts.{Layout}
+use Rattle.pos_layout.specs.Layouts.{Layout, name_of, memo_of}
 use Rattle.pos_layout.specs.Fields.{gate_in, name_in, zeros_in, header_in, count_of, directory_of, end_of}
 
 -- what a test finds that has to hold
@@ -23,14 +23,15 @@ first_found [] = None
 first_found (None ∷ tests) = first_found tests
 first_found (Some d ∷ tests) = Some d
 
--- the tests of the header alone: name, size, zeros, counts
+-- the tests of the header alone: name, size, zeros, memo, counts
 unfoldable pub header_fault : Layout → List ℕ → Option HeaderField
 header_fault l b =
     let h = header_in b in
     first_found (
-    unless (bytes_eq (name_in b) l.name) Name
+    unless (bytes_eq (name_in b) (name_of l)) Name
     ∷ unless (nat_le LEAST_SIZE h.size && nat_le h.size GREATEST_SIZE) Size
-    ∷ unless (list_all (λ x. x == 0) (zeros_in b)) Zeros
+    ∷ unless (list_all (λ x. x == 0) (zeros_in l b)) Zeros
+    ∷ unless (nat_le h.memo_length (memo_of l)) Memo
     ∷ unless (list_all (λ (c : Column). nat_le c.count (2 ^ (h.size + 1))) h.columns) Counts
     ∷ []
     )

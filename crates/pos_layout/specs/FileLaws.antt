@@ -1,10 +1,11 @@
 -- What is proved between the plots and the files: a plot has a file, one file alone, and a file has one plot; opening finds
 -- nothing exactly where a file opens; nothing that a crash may leave opens but the finished file.
-use Rattle.std.specs.Prelude.{◌≡◌, ◌↔◌, ℕ, ◌-◌, ◌*◌, ◌/◌, ◌<◌, ◌≤◌, ◌⊎◌, List, [], length, replicate, Some, None}
+use Rattle.std.specs.Prelude.{◌≡◌, ◌≢◌, ◌↔◌, ℕ, ◌-◌, ◌*◌, ◌/◌, ◌<◌, ◌≤◌, ◌⊎◌, List, [], length, replicate, Some, None}
 use Rattle.pos_bits.specs.Bits.{AreBytes}
 use Rattle.pos_lists.specs.Pairs.{greater}
 use Rattle.pos_layout.specs.declared.header.TheConstants.{LEAST_SIZE, GREATEST_SIZE}
-use Rattle.pos_layout.specs.Layouts.{Layout, IsLayout, own}
+use Rattle.pos_layout.specs.Layouts.{Layout, IsMemo, name_of}
+use Rattle.pos_layout.specs.Fields.{name_in, layout_in, header_in, memo_in}
 use Rattle.pos_layout.specs.Lists.{IsPlot}
 use Rattle.pos_lists.specs.PlotLists.{PlotLists}
 use Rattle.pos_lists.specs.Trees.{IsInRange}
@@ -17,9 +18,9 @@ use Rattle.pos_layout.specs.Images.{IsTiny, IsShut, IsTinyOrShut, IsButGate, IsS
 
 -- ---- the laws speak of something
 
--- the own layout meets what is asked of one
-abbrev pub OwnIsALayout : Type 0
-OwnIsALayout = IsLayout own
+-- in each layout a file may have no memo
+abbrev pub NoMemoIsAMemo : Type 0
+NoMemoIsAMemo = (l : Layout) → IsMemo l []
 
 -- an id with no number in any table
 abbrev pub bare : List ℕ → ℕ → PlotLists
@@ -33,35 +34,57 @@ BareIsAPlot = (id : List ℕ) (k : ℕ) → length id ≡ 32 → AreBytes id →
 
 -- the file of a plot stores it: each park is within its limit, each offset and length fits its field
 abbrev pub AFileStoresItsPlot : Type 0
-AFileStoresItsPlot = (l : Layout) (p : PlotLists) → IsLayout l → IsPlot p → Stores l (file_of l p) p
+AFileStoresItsPlot = (l : Layout) (memo : List ℕ) (p : PlotLists) → IsMemo l memo → IsPlot p → Stores l (file_of l memo p) p
 
 -- so it is well where the numbers point inside
 abbrev pub AFileIsWell : Type 0
-AFileIsWell = (l : Layout) (p : PlotLists) → IsLayout l → IsPlot p → IsInRange p → Well l (file_of l p) p
+AFileIsWell = (l : Layout) (memo : List ℕ) (p : PlotLists) → IsMemo l memo → IsPlot p → IsInRange p → Well l (file_of l memo p) p
+
+-- the memo that it says is the one that it was made with
+abbrev pub AFileHasItsMemo : Type 0
+AFileHasItsMemo = (l : Layout) (memo : List ℕ) (p : PlotLists) → IsMemo l memo → IsPlot p → memo_in (file_of l memo p) ≡ memo
 
 -- and what it has are bytes
 abbrev pub AFileIsBytes : Type 0
-AFileIsBytes = (l : Layout) (p : PlotLists) → IsLayout l → IsPlot p → AreBytes (file_of l p)
+AFileIsBytes = (l : Layout) (memo : List ℕ) (p : PlotLists) → IsMemo l memo → IsPlot p → AreBytes (file_of l memo p)
 
 -- what a file of bytes stores is a plot
 abbrev pub AStoredPlotIsAPlot : Type 0
-AStoredPlotIsAPlot = (l : Layout) (b : List ℕ) (p : PlotLists) → IsLayout l → AreBytes b → Stores l b p → IsPlot p
+AStoredPlotIsAPlot = (l : Layout) (b : List ℕ) (p : PlotLists) → AreBytes b → Stores l b p → IsPlot p
 
 -- a file stores at most one plot
 abbrev pub OneStoredPlot : Type 0
-OneStoredPlot = (l : Layout) (b : List ℕ) (p q : PlotLists) → IsLayout l → Stores l b p → Stores l b q → p ≡ q
+OneStoredPlot = (l : Layout) (b : List ℕ) (p q : PlotLists) → Stores l b p → Stores l b q → p ≡ q
 
--- what stores a plot is the file of the plot
+-- what stores a plot is the file of the plot with its memo
 abbrev pub OneFile : Type 0
-OneFile = (l : Layout) (b : List ℕ) (p : PlotLists) → IsLayout l → AreBytes b → Stores l b p → b ≡ file_of l p
+OneFile = (l : Layout) (b : List ℕ) (p : PlotLists) → AreBytes b → Stores l b p → b ≡ file_of l (memo_in b) p
 
--- so at most one file stores it
+-- so at most one file of a layout stores it with a memo
 abbrev pub OneFileOfAPlot : Type 0
-OneFileOfAPlot = (l : Layout) (b c : List ℕ) (p : PlotLists) → IsLayout l → AreBytes b → AreBytes c → Stores l b p → Stores l c p → b ≡ c
+OneFileOfAPlot = (l : Layout) (b c : List ℕ) (p : PlotLists) → AreBytes b → AreBytes c → Stores l b p → Stores l c p → memo_in b ≡ memo_in c → b ≡ c
+
+-- ---- the layout and the memo
+
+-- the name says the layout
+abbrev pub TheNameSaysTheLayout : Type 0
+TheNameSaysTheLayout = (l : Layout) (b : List ℕ) → name_in b ≡ name_of l → layout_in b ≡ l
+
+-- a name that is not that of the layout it is read as is the name of none
+abbrev pub AnotherNameIsNone : Type 0
+AnotherNameIsNone = (l : Layout) (b : List ℕ) → name_in b ≢ name_of (layout_in b) → name_in b ≢ name_of l
+
+-- so what opens in a layout says it in its header
+abbrev pub AnOpenFileSaysItsLayout : Type 0
+AnOpenFileSaysItsLayout = (l : Layout) (b : List ℕ) → Opens l b → (header_in b).layout ≡ l
+
+-- and its memo is one that the layout allows, as long as the header says
+abbrev pub AnOpenFileHasAMemo : Type 0
+AnOpenFileHasAMemo = (l : Layout) (b : List ℕ) → AreBytes b → Opens l b → IsMemo l (memo_in b) × (length (memo_in b) ≡ (header_in b).memo_length)
 
 -- ---- opening
 
--- opening a file by its own length finds nothing exactly where it opens
+-- opening a file as one of a layout, by its own length, finds nothing exactly where it opens in that layout
 abbrev pub OpeningFindsNothing : Type 0
 OpeningFindsNothing = (l : Layout) (b : List ℕ) → (opening l b (length b) ≡ None) ↔ Opens l b
 
@@ -73,7 +96,7 @@ OpeningFindsTheCause = (l : Layout) (b : List ℕ) (d : Damage) → (opening l b
 
 -- what opens and is the file of a plot but for the gate is that file
 abbrev pub OpensIsTheFile : Type 0
-OpensIsTheFile = (l : Layout) (b : List ℕ) (p : PlotLists) → IsButGate (file_of l p) (Some b) → Opens l b → b ≡ file_of l p
+OpensIsTheFile = (l m : Layout) (b memo : List ℕ) (p : PlotLists) → IsButGate (file_of l memo p) (Some b) → Opens m b → b ≡ file_of l memo p
 
 -- with a closed gate nothing opens
 abbrev pub ShutDoesNotOpen : Type 0
@@ -86,7 +109,8 @@ TinyDoesNotOpen = (l : Layout) (b : List ℕ) → IsTiny (Some b) → Opens l b 
 -- So of all that the calls of a writer may leave of a plot's file, absent, of at most one byte, with a closed gate, or the
 -- finished file but for the gate, what opens is the finished file.
 abbrev pub OpenImageIsTheFile : Type 0
-OpenImageIsTheFile = (l : Layout) (b : List ℕ) (p : PlotLists) → IsTinyOrShut (Some b) ⊎ IsShutOr (file_of l p) (Some b) → Opens l b → b ≡ file_of l p
+OpenImageIsTheFile =
+    (l m : Layout) (b memo : List ℕ) (p : PlotLists) → IsTinyOrShut (Some b) ⊎ IsShutOr (file_of l memo p) (Some b) → Opens m b → b ≡ file_of l memo p
 
 -- ---- pointers
 

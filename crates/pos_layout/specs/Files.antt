@@ -7,10 +7,9 @@ use Rattle.pos_rice.specs.Park.{mean_step, park_bits}
 use Rattle.pos_layout.specs.declared.header.Column.{Column}
 use Rattle.pos_layout.specs.declared.header.Header.{Header}
 use Rattle.pos_layout.specs.declared.entry.ParkEntry.{ParkEntry}
-use Rattle.pos_layout.specs.declared.header.TheConstants.{HEADER_BYTES}
-use Rattle.pos_layout.specs.Layouts.{Layout}
+use Rattle.pos_layout.specs.Layouts.{Layout, full_of, digest_of}
 use Rattle.pos_lists.specs.PlotLists.{PlotLists}
-use Rattle.pos_layout.specs.Fields.{header_bytes, entry_fields}
+use Rattle.pos_layout.specs.Fields.{header_bytes, entry_fields, after_memo}
 use Rattle.pos_layout.specs.Rules.{head_of}
 
 -- how many binary digits a number has, up to so many; 0 has none
@@ -34,7 +33,7 @@ cut full (suc most) (n ∷ ns) = take full (n ∷ ns) ∷ cut full most (drop fu
 
 -- the numbers of each park of a table
 unfoldable pub parks_in : Layout → List ℕ → List (List ℕ)
-parks_in l ns = cut l.full (length ns) ns
+parks_in l ns = cut (full_of l) (length ns) ns
 
 -- the parks one after another
 unfoldable pub park_bytes : ℕ → List (List ℕ) → List ℕ
@@ -47,7 +46,7 @@ entry_for l k t at ns = record {
   offset = at;
   park_length = length (park_of k ns);
   count = length ns;
-  digest = take l.digest (sha256 (park_of k ns));
+  digest = take (digest_of l) (sha256 (park_of k ns));
   head = head_of k t ns;
 }
 
@@ -73,22 +72,24 @@ columns_for l k t at (ns ∷ tables) =
     record { count = length ns; directory = at + length (park_bytes k (parks_in l ns)) }
     ∷ columns_for l k (suc t) (at + length (table_bytes l k t at ns)) tables
 
--- all that comes after the header
-unfoldable pub body_of : Layout → PlotLists → List ℕ
-body_of l p = tables_bytes l p.k 1 HEADER_BYTES p.tables
+-- all that comes after the memo
+unfoldable pub body_of : Layout → List ℕ → PlotLists → List ℕ
+body_of l memo p = tables_bytes l p.k 1 (after_memo memo) p.tables
 
-unfoldable pub header_of : Layout → PlotLists → Header
-header_of l p = record {
+unfoldable pub header_of : Layout → List ℕ → PlotLists → Header
+header_of l memo p = record {
+  layout = l;
   id = record { 0 = p.id };
   size = p.k;
-  columns = columns_for l p.k 1 HEADER_BYTES p.tables;
-  file_length = HEADER_BYTES + length (body_of l p);
+  memo_length = length memo;
+  columns = columns_for l p.k 1 (after_memo memo) p.tables;
+  file_length = after_memo memo + length (body_of l memo p);
 }
 
 -- the file with its gate closed or open: 0 or 1
-unfoldable pub file_with : Layout → ℕ → PlotLists → List ℕ
-file_with l gate p = header_bytes l gate (header_of l p) ++ body_of l p
+unfoldable pub file_with : Layout → List ℕ → ℕ → PlotLists → List ℕ
+file_with l memo gate p = header_bytes l gate (header_of l memo p) ++ (memo ++ body_of l memo p)
 
--- the file of a plot
-abbrev pub file_of : Layout → PlotLists → List ℕ
-file_of l p = file_with l 1 p
+-- the file of a plot in this layout, with this memo
+abbrev pub file_of : Layout → List ℕ → PlotLists → List ℕ
+file_of l memo p = file_with l memo 1 p

@@ -10,7 +10,7 @@ use Rattle.pos_layout.specs.declared.header.Header.{Header}
 use Rattle.pos_layout.specs.declared.entry.ParkEntry.{ParkEntry}
 use Rattle.pos_layout.specs.declared.damage.Damage.{Damage}
 use Rattle.pos_layout.specs.declared.damage.Damage.TheVariants.{Directory, Digest, Form as WrongForm, Pointer}
-use Rattle.pos_layout.specs.Layouts.{Layout, longest_park, park_count}
+use Rattle.pos_layout.specs.Layouts.{Layout, full_of, digest_of, longest_park, park_count}
 use Rattle.pos_layout.specs.Lists.{points_inside}
 use Rattle.pos_lists.specs.PlotLists.{f7_in}
 use Rattle.pos_layout.specs.Fields.{header_in, count_of, directory_of, end_of, entry_in, park_in}
@@ -43,7 +43,7 @@ is_headed h t e ns = not (t == 7) || (e.head == f7_in h.size (slice_index ns 0))
 -- the numbers of a park by its entry: the digest is tested, then the park itself, then the head
 unfoldable pub numbers_by : Layout → Header → ℕ → ℕ → ParkEntry → List ℕ → Result (List ℕ) Damage
 numbers_by l h t park e s =
-    then_read (tested (bytes_eq (take l.digest (sha256 s)) e.digest) (Digest t park) s) (λ s.
+    then_read (tested (bytes_eq (take (digest_of l) (sha256 s)) e.digest) (Digest t park) s) (λ s.
     then_read (ok_or (numbers_in h.size e.count s) (WrongForm t park)) (λ ns.
     tested (is_headed h t e ns) (Directory t park) ns))
 
@@ -56,7 +56,7 @@ read_park l b t park =
 unfoldable pub num : Layout → List ℕ → ℕ → ℕ → Result ℕ Damage
 num l b t i =
     let h = header_in b in
-    then_read (read_park l b t (i / l.full)) (λ ns. let n = slice_index ns (i % l.full) in
+    then_read (read_park l b t (i / full_of l)) (λ ns. let n = slice_index ns (i % full_of l) in
     tested (points_inside h.size t (count_of h (t - 1)) n) (Pointer t i) n)
 
 -- the head of a park of table 7

@@ -6,7 +6,7 @@ use Rattle.pos_lists.specs.PlotLists.{PlotLists, numbers, count, number_at, f7_i
 use Rattle.pos_lists.specs.Trees.{IsInRange}
 use Rattle.pos_lists.specs.Walk.{ReadsPlot, ReadsValues}
 use Rattle.pos_layout.specs.Bytes.{part}
-use Rattle.pos_layout.specs.Layouts.{Layout, own, parks_of}
+use Rattle.pos_layout.specs.Layouts.{Layout, full_of, parks_of}
 use Rattle.pos_layout.specs.Fields.{count_of, header_in}
 use Rattle.pos_layout.specs.Lists.{points_inside}
 use Rattle.pos_layout.specs.Reading.{num, head, under, read_park}
@@ -14,35 +14,35 @@ use Rattle.pos_layout.specs.Rules.{Stores, Well}
 
 -- each park reads as its part of the table's list
 abbrev pub ParksAreRead : Type 0
-ParksAreRead = (b : List ℕ) (p : PlotLists) (t park : ℕ) → Stores own b p → 1 ≤ t → t ≤ 7 → park < parks_of own (count p t) →
-    read_park own b t park ≡ Ok (part (numbers p t) (own.full * park) own.full)
+ParksAreRead = (l : Layout) (b : List ℕ) (p : PlotLists) (t park : ℕ) → Stores l b p → 1 ≤ t → t ≤ 7 → park < parks_of l (count p t) →
+    read_park l b t park ≡ Ok (part (numbers p t) (full_of l * park) (full_of l))
 
 -- a head of table 7 as the f7 of its park's first number
 abbrev pub HeadsAreRead : Type 0
-HeadsAreRead = (b : List ℕ) (p : PlotLists) (park : ℕ) → Stores own b p → park < parks_of own (count p 7) →
-    head own b park ≡ Ok (f7_in p.k (number_at p 7 (own.full * park)))
+HeadsAreRead = (l : Layout) (b : List ℕ) (p : PlotLists) (park : ℕ) → Stores l b p → park < parks_of l (count p 7) →
+    head l b park ≡ Ok (f7_in p.k (number_at p 7 (full_of l * park)))
 
 -- a count as how many numbers of the park have a lesser f7
 abbrev pub CountsAreRead : Type 0
-CountsAreRead = (b : List ℕ) (p : PlotLists) (park f7 : ℕ) → Stores own b p → park < parks_of own (count p 7) →
-    under own b park f7
-    ≡ Ok (count_by (λ n. nat_lt n (f7 * 2 ^ (p.k + 1))) (part (numbers p 7) (own.full * park) own.full))
+CountsAreRead = (l : Layout) (b : List ℕ) (p : PlotLists) (park f7 : ℕ) → Stores l b p → park < parks_of l (count p 7) →
+    under l b park f7
+    ≡ Ok (count_by (λ n. nat_lt n (f7 * 2 ^ (p.k + 1))) (part (numbers p 7) (full_of l * park) (full_of l)))
 
 -- and where no number points outside, each place as the list's number
 abbrev pub NumbersAreRead : Type 0
-NumbersAreRead = (b : List ℕ) (p : PlotLists) (t i : ℕ) → Well own b p → 1 ≤ t → t ≤ 7 → i < count p t →
-    num own b t i ≡ Ok (number_at p t i)
+NumbersAreRead = (l : Layout) (b : List ℕ) (p : PlotLists) (t i : ℕ) → Well l b p → 1 ≤ t → t ≤ 7 → i < count p t →
+    num l b t i ≡ Ok (number_at p t i)
 
--- the bytes b show the plot p as the laws on plain lists ask for
-pub record ShowsLists (b : List ℕ) (p : PlotLists) : Type 0 where
+-- the bytes b of this layout show the plot p as the laws on plain lists ask for
+pub record ShowsLists (l : Layout) (b : List ℕ) (p : PlotLists) : Type 0 where
   pub rise : NumbersRise p
   pub in_range : IsInRange p
-  pub reads : ReadsPlot (num own b) p
+  pub reads : ReadsPlot (num l b) p
   pub few : count p 6 ≤ 2 ^ (p.k + 1)
 
 -- a whole file shows its plot so
 abbrev pub AWholeFileShowsItsLists : Type 0
-AWholeFileShowsItsLists = (b : List ℕ) (p : PlotLists) → Well own b p → ShowsLists b p
+AWholeFileShowsItsLists = (l : Layout) (b : List ℕ) (p : PlotLists) → Well l b p → ShowsLists l b p
 
 -- whatever the bytes are, a number that is read points inside by the counts of the header
 abbrev pub NumbersPointInside : Type 0

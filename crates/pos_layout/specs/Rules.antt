@@ -8,7 +8,7 @@ use Rattle.pos_layout.specs.declared.header.Header.{Header}
 use Rattle.pos_layout.specs.declared.entry.ParkEntry.{ParkEntry}
 use Rattle.pos_layout.specs.declared.header.TheConstants.{HEADER_BYTES, LEAST_SIZE, GREATEST_SIZE}
 use Rattle.pos_layout.specs.Bytes.{part}
-use Rattle.pos_layout.specs.Layouts.{Layout, longest_park, parks_of}
+use Rattle.pos_layout.specs.Layouts.{Layout, name_of, full_of, digest_of, memo_of, zeros_of, longest_park, parks_of}
 use Rattle.pos_lists.specs.PlotLists.{PlotLists, numbers, f7_in}
 use Rattle.pos_lists.specs.Trees.{IsInRange}
 use Rattle.pos_layout.specs.Fields.{gate_in, name_in, zeros_in, header_in, count_of, directory_of, end_of, entry_in, park_in}
@@ -19,10 +19,11 @@ pub record IsPlaced (l : Layout) (h : Header) (t : ℕ) : Type 0 where
   pub inside : end_of l h t ≤ h.file_length
   pub empty : count_of h t ≡ 0 → directory_of h t ≡ end_of l h (t - 1)
 
--- a header that says of size, counts, offsets and length what can be
+-- a header that says of size, memo, counts, offsets and length what can be
 pub record IsLaidOut (l : Layout) (h : Header) : Type 0 where
   pub least : LEAST_SIZE ≤ h.size
   pub greatest : h.size ≤ GREATEST_SIZE
+  pub memo : h.memo_length ≤ memo_of l
   pub counts : (t : ℕ) → 1 ≤ t → t ≤ 7 → count_of h t ≤ 2 ^ (h.size + 1)
   pub placed : (t : ℕ) → 1 ≤ t → t ≤ 7 → IsPlaced l h t
   pub whole : end_of l h 7 ≡ h.file_length
@@ -31,8 +32,8 @@ pub record IsLaidOut (l : Layout) (h : Header) : Type 0 where
 pub record Opens (l : Layout) (b : List ℕ) : Type 0 where
   pub long : HEADER_BYTES ≤ length b
   pub gate : gate_in b ≡ 1
-  pub name : name_in b ≡ l.name
-  pub zeros : zeros_in b ≡ replicate 7 0
+  pub name : name_in b ≡ name_of l
+  pub zeros : zeros_in l b ≡ replicate (zeros_of l) 0
   pub said : (header_in b).file_length ≡ length b
   pub laid_out : IsLaidOut l (header_in b)
 
@@ -51,7 +52,7 @@ pub record StoresPark (l : Layout) (b : List ℕ) (t : ℕ) (ns : List ℕ) (e :
   pub short : e.park_length ≤ longest_park l (header_in b).size
   pub count : e.count ≡ length ns
   pub head : e.head ≡ head_of (header_in b).size t ns
-  pub digest : e.digest ≡ take l.digest (sha256 (park_in b e))
+  pub digest : e.digest ≡ take (digest_of l) (sha256 (park_in b e))
   pub park : Park (header_in b).size ns (park_in b e)
 
 -- table t's parks follow one another up to its directory, and hold these numbers in order
@@ -60,7 +61,7 @@ pub record StoresTable (l : Layout) (b : List ℕ) (t : ℕ) (ns : List ℕ) : T
   pub rising : IsStrictlyIncreasing ns
   pub starts : (park : ℕ) → park < parks_of l (length ns) → (entry_in l b t park).offset ≡ park_start l b t park
   pub ends : park_start l b t (parks_of l (length ns)) ≡ directory_of (header_in b) t
-  pub parks : (park : ℕ) → park < parks_of l (length ns) → StoresPark l b t (part ns (l.full * park) l.full) (entry_in l b t park)
+  pub parks : (park : ℕ) → park < parks_of l (length ns) → StoresPark l b t (part ns (full_of l * park) (full_of l)) (entry_in l b t park)
 
 -- the bytes are the whole file of these lists
 pub record Stores (l : Layout) (b : List ℕ) (p : PlotLists) : Type 0 where

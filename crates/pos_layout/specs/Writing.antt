@@ -1,58 +1,25 @@
--- What the calls of a writer do to the disk and to the writer.
+-- What the calls of a writer do to the writer; what they do to the disk is what calls of any file with a gate do.
 -- Source: this project's plot file format. Tables count from 1 to 7.
-use Rattle.std.specs.Prelude.{◌≡◌, ℕ, ◌+◌, ◌*◌, ◌^◌, ◌<◌, ◌≤◌, List, [], ◌++◌, length, Option, Result, IfErr, IsErrOf}
-use Rattle.pos_edge.specs.Faults.{Rose}
+use Rattle.std.specs.Prelude.{◌≡◌, ℕ, ◌+◌, ◌*◌, ◌^◌, ◌<◌, ◌≤◌, List, [], ◌++◌, length}
 use Rattle.pos_edge.specs.View.{View}
-use Rattle.pos_edge.specs.Frame.{ChangesFile, KeepsIds, SameFaultsBut, Nothing}
-use Rattle.pos_edge.specs.Images.{ImagesBy}
-use Rattle.pos_edge.specs.declared.scratch.WorkFault.{WorkFault}
-use Rattle.pos_edge.specs.declared.scratch.WorkFault.TheVariants.{DiskFailed}
-use Rattle.pos_layout.specs.Layouts.{own}
-use Rattle.pos_layout.specs.Images.{EachImageOf, IsShut}
-use Rattle.pos_layout.specs.Drafts.{Draft, WriterState, Stands, IsWriteFault, table_ended}
-
--- ---- the disk
-
--- A call that writes one file, whatever it answered: it changed that file alone, read nothing, and at each moment each
--- image of the file has P. It failed for want of memory or by the disk, and the count of faults tells which.
-pub record Works {X : Type 0} (P : Option (List ℕ) → Type 0) (file : ℕ) (result : Result X WorkFault) (old new : View) : Type 0 where
-  pub kept : ChangesFile file old new
-  pub ids : KeepsIds Nothing old new
-  pub reads : new.reads ≡ old.reads
-  pub images : EachImageOf P file old new
-  pub fault : IfErr result IsWriteFault
-  pub failed : IsErrOf result DiskFailed → Rose old.faults new.faults
-  pub quiet : SameFaultsBut DiskFailed result old new
-
--- The same, where each image of the file comes by a relation from one that it had before.
-pub record WorksBy {X : Type 0} (R : Option (List ℕ) → Option (List ℕ) → Type 0) (file : ℕ) (result : Result X WorkFault) (old new : View) : Type 0 where
-  pub kept : ChangesFile file old new
-  pub ids : KeepsIds Nothing old new
-  pub reads : new.reads ≡ old.reads
-  pub images : ImagesBy R file old new
-  pub fault : IfErr result IsWriteFault
-  pub failed : IsErrOf result DiskFailed → Rose old.faults new.faults
-  pub quiet : SameFaultsBut DiskFailed result old new
-
--- One file was changed alone, and at each moment each image of it has a closed gate.
-pub record WritesOnly (file : ℕ) (old new : View) : Type 0 where
-  pub kept : ChangesFile file old new
-  pub ids : KeepsIds Nothing old new
-  pub images : EachImageOf IsShut file old new
+pub use Rattle.pos_gate.specs.Works.{Works, WorksBy, WritesOnly}
+use Rattle.pos_layout.specs.Layouts.{Layout}
+use Rattle.pos_layout.specs.Drafts.{Draft, WriterState, Stands, table_ended}
 
 -- ---- the writer
 
 -- it stands for some draft
 abbrev pub IsStanding : WriterState → View → Type 0
-IsStanding w view = (p : Draft) × Stands own w p view
+IsStanding w view = (p : Draft) × Stands w p view
 
 -- whatever draft it stood for, it now stands for what this makes of it
 abbrev pub Goes : (Draft → Draft) → WriterState → WriterState → View → View → Type 0
-Goes change before after old new = (p : Draft) → Stands own before p old → Stands own after (change p) new
+Goes change before after old new = (p : Draft) → Stands before p old → Stands after (change p) new
 
--- a writer of this file and size that just began
-pub record IsBegun (file size : ℕ) (w : WriterState) : Type 0 where
+-- a writer of this file, layout and size that just began
+pub record IsBegun (file : ℕ) (layout : Layout) (size : ℕ) (w : WriterState) : Type 0 where
   pub file_is : w.file ≡ file
+  pub layout_is : w.layout ≡ layout
   pub size_is : w.size ≡ size
   pub columns : w.columns ≡ []
   pub count : w.count ≡ 0
@@ -65,9 +32,10 @@ pub record MayAdd (number : ℕ) (w : WriterState) : Type 0 where
   pub below : number < 2 ^ (2 * w.size + 2)
   pub few : w.count < 2 ^ (w.size + 1)
 
--- the same file and size
+-- the same file, layout and size
 pub record SameFile (before after : WriterState) : Type 0 where
   pub file : after.file ≡ before.file
+  pub layout : after.layout ≡ before.layout
   pub size : after.size ≡ before.size
 
 -- the open table has one number more, this one
@@ -85,7 +53,7 @@ pub record OpensNext (before after : WriterState) : Type 0 where
 
 -- these numbers more in the open table
 abbrev pub with_numbers : List ℕ → Draft → Draft
-with_numbers ns p = record { id = p.id; k = p.k; ended = p.ended; numbers = p.numbers ++ ns }
+with_numbers ns p = record { layout = p.layout; memo = p.memo; id = p.id; k = p.k; ended = p.ended; numbers = p.numbers ++ ns }
 
 -- these numbers more, and the table ended
 abbrev pub with_table : List ℕ → Draft → Draft
@@ -93,4 +61,4 @@ with_table ns p = table_ended (with_numbers ns p)
 
 -- these tables more
 abbrev pub with_tables : List (List ℕ) → Draft → Draft
-with_tables tables p = record { id = p.id; k = p.k; ended = p.ended ++ tables; numbers = p.numbers }
+with_tables tables p = record { layout = p.layout; memo = p.memo; id = p.id; k = p.k; ended = p.ended ++ tables; numbers = p.numbers }

@@ -1,6 +1,14 @@
-//! Numbers of four and eight bytes, the first byte on top.
+//! Numbers of two, four and eight bytes, the first byte on top.
 ghost use Rattle.std.specs.Prelude.{◌≡◌, ◌+◌, ◌++◌, ◌≤◌, length, take};
-ghost use Rattle.pos_layout.specs.Bytes.{four_at, eight_at};
+ghost use Rattle.pos_layout.specs.Bytes.{two_at, four_at, eight_at};
+
+/// The number in the two bytes from this place on.
+pub(crate) fn two_at(bytes: &[u8], at: usize) -> u16
+    requires { at + 2 ≤ length bytes.now }
+    ensures { result ≡ two_at bytes.now at }
+{
+    u16::from_be_bytes([bytes[at], bytes[at + 1]])
+}
 
 /// The number in the four bytes from this place on.
 pub(crate) fn four_at(bytes: &[u8], at: usize) -> u32

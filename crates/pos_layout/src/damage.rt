@@ -6,6 +6,7 @@ pub enum HeaderField {
     Name,
     Size,
     Zeros,
+    Memo,
     Counts,
 }
 
@@ -25,6 +26,8 @@ pub enum Damage {
     Form { table: u8, park: u64 },
     /// A number points outside the table before.
     Pointer { table: u8, at: u64 },
+    /// A number is not above the one before it. Only a conversion of the file finds this.
+    Order { table: u8, at: u64 },
     /// The tuple at a place of table 7 is no proof.
     NotAProof { at: u64 },
 }

@@ -1,19 +1,21 @@
 //! What holds of plot files, whatever the code: each law is what a function with an empty body ensures.
 
-ghost use Rattle.pos_layout.specs.FileLaws.{OwnIsALayout, BareIsAPlot, AFileStoresItsPlot, AFileIsWell, AFileIsBytes, AStoredPlotIsAPlot, OneStoredPlot, OneFile, OneFileOfAPlot, OpeningFindsNothing, OpeningFindsTheCause, OpenImageIsTheFile, OpensIsTheFile, ShutDoesNotOpen, TinyDoesNotOpen, PointsInsideByPairs};
+ghost use Rattle.pos_layout.specs.FileLaws.{NoMemoIsAMemo, BareIsAPlot, AFileStoresItsPlot, AFileIsWell, AFileHasItsMemo, AFileIsBytes, TheNameSaysTheLayout, AnotherNameIsNone, AnOpenFileSaysItsLayout, AnOpenFileHasAMemo, AStoredPlotIsAPlot, OneStoredPlot, OneFile, OneFileOfAPlot, OpeningFindsNothing, OpeningFindsTheCause, OpenImageIsTheFile, OpensIsTheFile, ShutDoesNotOpen, TinyDoesNotOpen, PointsInsideByPairs};
 ghost use Rattle.pos_layout.specs.ReadingLaws.{ParksAreRead, HeadsAreRead, CountsAreRead, NumbersAreRead, AWholeFileShowsItsLists, NumbersPointInside, AnyFileReadsValues};
 
-/// The layout of this project meets what is asked of one, and at each size each id has a plot with seven empty tables, so the laws below speak of something.
-pub fn layouts_and_plots_are_there()
-    ensures layout { OwnIsALayout }
+/// In each layout a file may have no memo, and at each size each id has a plot with seven empty tables, so the laws below
+/// speak of something.
+pub fn memos_and_plots_are_there()
+    ensures memo { NoMemoIsAMemo }
     ensures plot { BareIsAPlot }
 {}
 
-/// The file of a plot stores it, and is well where the pointers are in range. Parks are within their limit: nothing is asked of
-/// their lengths.
+/// The file of a plot stores it, has the memo that it was made with, and is well where the pointers are in range. Parks are
+/// within their limit: nothing is asked of their lengths.
 pub fn a_file_stores_its_plot()
     ensures stores { AFileStoresItsPlot }
     ensures well { AFileIsWell }
+    ensures memo { AFileHasItsMemo }
     ensures bytes { AFileIsBytes }
 {}
 
@@ -23,10 +25,18 @@ pub fn a_file_has_one_plot()
     ensures one { OneStoredPlot }
 {}
 
-/// What stores a plot is the file of the plot, so at most one file stores it.
+/// What stores a plot is the file of the plot with its layout and memo, so at most one file stores it for each of these.
 pub fn a_plot_has_one_file()
     ensures the_file { OneFile }
     ensures one { OneFileOfAPlot }
+{}
+
+/// The name says the layout, and no other name is that of one. What opens says its layout and has a memo that is allowed.
+pub fn a_file_has_one_layout_and_memo()
+    ensures layout { TheNameSaysTheLayout }
+    ensures no_other { AnotherNameIsNone }
+    ensures says { AnOpenFileSaysItsLayout }
+    ensures memo { AnOpenFileHasAMemo }
 {}
 
 /// Opening finds nothing exactly where the file opens.

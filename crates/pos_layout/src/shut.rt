@@ -1,21 +1,26 @@
-//! A file whose first byte, its gate, stays 0 until all else is on the disk.
-ghost use Rattle.std.specs.Prelude.{◌≡◌, ◌+◌, ◌++◌, ◌^◌, ◌<◌, ◌≤◌, ℕ, List, length, replicate, IsTrue, OnOk};
-ghost use Rattle.pos_edge.specs.Images.{Stays, Tears};
-ghost use Rattle.pos_edge.specs.Calls.{IsSynced, IsThere, IsWritten, SameContents};
-ghost use Rattle.pos_layout.specs.Images.{Holds, HoldsShut, IsFresh, IsShut, IsShutOr, IsTinyOrShut, opened};
-ghost use Rattle.pos_layout.specs.Writing.{Works, WorksBy};
+//! A plot file as a file with a gate: its first bytes, what is added to it, and its header at the end.
+ghost use Rattle.std.specs.Prelude.{◌≡◌, ◌+◌, ◌++◌, ◌^◌, ◌<◌, ◌≤◌, ℕ, List, length, replicate, OnOk};
+ghost use Rattle.pos_edge.specs.Images.{written};
+ghost use Rattle.pos_gate.specs.Gates.{opened};
+ghost use Rattle.pos_layout.specs.Images.{Holds, HoldsShut, IsFresh, IsShut, IsShutOr, IsTinyOrShut};
+ghost use Rattle.pos_layout.specs.Writing.{Works};
 
-use pos_edge::{Disk, DiskFailed, FileId, WorkFault, WriteFault};
+use crate::MOST_MEMO;
+use crate::bytes::put;
+use pos_edge::{Disk, FileId, WorkFault};
+use pos_gate::{begin, open_gate, write_past};
 
-/// Writes a closed gate into a fresh file, and only after it is on the disk zeros up to the end of a header.
-pub(crate) fn begin_shut<D: Disk>(disk: &mut D, file: FileId) -> Result<(), WorkFault>
-    requires { IsFresh file.0 (D.view disk.old) }
+/// Writes a closed gate into a fresh file, and only after it is on the disk zeros up to the end of a header, and a memo.
+pub(crate) fn begin_shut<D: Disk>(disk: &mut D, file: FileId, memo: &[u8]) -> Result<(), WorkFault>
+    requires fresh { IsFresh file.0 (D.view disk.old) }
+    requires memo { length memo.now ≤ MOST_MEMO }
     ensures works { Works IsTinyOrShut file.0 result (D.view disk.old) (D.view disk.new) }
-    ensures ok { OnOk result (HoldsShut file.0 (replicate 176 0) (D.view disk.new)) }
+    ensures ok { OnOk result (HoldsShut file.0 (replicate 176 0 ++ memo.now) (D.view disk.new)) }
 {
-    write(disk, file, 0, &[0])?;
-    sync(disk, file)?;
-    write(disk, file, 1, &[0; 175])
+    begin(disk, file)?;
+    let mut rest = [0; 175 + MOST_MEMO];
+    put(&mut rest, 175, memo);
+    write_past(disk, file, 1, &rest[..175 + memo.len()])
 }
 
 /// Appends a piece to a file with a closed gate.
@@ -31,7 +36,7 @@ pub(crate) fn append<D: Disk>(
     ensures ok { OnOk result ((b : List ℕ) → HoldsShut file.0 b (D.view disk.old) → length b ≡ at
         → HoldsShut file.0 (b ++ piece.now) (D.view disk.new)) }
 {
-    write(disk, file, at, piece)
+    write_past(disk, file, at, piece)
 }
 
 /// Writes the header but its gate, and opens the gate only after all else is on the disk.
@@ -43,43 +48,10 @@ pub(crate) fn finish_shut<D: Disk>(
     requires held { (b : List ℕ) × HoldsShut file.0 b (D.view disk.old) × (176 ≤ length b) }
     requires header { length header.now ≡ 175 }
     ensures works { (b : List ℕ) → HoldsShut file.0 b (D.view disk.old) → 176 ≤ length b
-        → Works (IsShutOr (opened header.now b)) file.0 result (D.view disk.old) (D.view disk.new) }
+        → Works (IsShutOr (opened (written 1 header.now b))) file.0 result (D.view disk.old) (D.view disk.new) }
     ensures ok { OnOk result ((b : List ℕ) → HoldsShut file.0 b (D.view disk.old) → 176 ≤ length b
-        → Holds file.0 (opened header.now b) (D.view disk.new)) }
+        → Holds file.0 (opened (written 1 header.now b)) (D.view disk.new)) }
 {
-    write(disk, file, 1, header)?;
-    sync(disk, file)?;
-    write(disk, file, 0, &[1])?;
-    sync(disk, file)
-}
-
-/// Writes a piece, with the faults of work in place of the disk's.
-fn write<D: Disk>(disk: &mut D, file: FileId, at: u64, piece: &[u8]) -> Result<(), WorkFault>
-    requires live { IsTrue ((D.view disk.old).is_live file.0) }
-    requires there { IsThere file.0 (D.view disk.old) }
-    requires within { at ≤ (D.view disk.old).size_of file.0 }
-    requires fits { at + length piece.now < 2 ^ 63 }
-    ensures works { WorksBy (Tears at (length piece.now)) file.0 result (D.view disk.old) (D.view disk.new) }
-    ensures ok { OnOk result (IsWritten file.0 at piece.now (D.view disk.old) (D.view disk.new)) }
-{
-    match disk.write_at(file, at, piece) {
-        Ok(()) => Ok(()),
-        Err(WriteFault::Failed) => Err(WorkFault::DiskFailed),
-        Err(WriteFault::Memory) => Err(WorkFault::Memory),
-    }
-}
-
-/// Syncs a file, with the faults of work in place of the disk's.
-fn sync<D: Disk>(disk: &mut D, file: FileId) -> Result<(), WorkFault>
-    requires live { IsTrue ((D.view disk.old).is_live file.0) }
-    requires there { IsThere file.0 (D.view disk.old) }
-    ensures works { WorksBy Stays file.0 result (D.view disk.old) (D.view disk.new) }
-    ensures size { (D.view disk.new).size_of file.0 ≡ (D.view disk.old).size_of file.0 }
-    ensures contents { SameContents (D.view disk.old) (D.view disk.new) }
-    ensures ok { OnOk result (IsSynced file.0 (D.view disk.new)) }
-{
-    match disk.sync(file) {
-        Ok(()) => Ok(()),
-        Err(DiskFailed) => Err(WorkFault::DiskFailed),
-    }
+    write_past(disk, file, 1, header)?;
+    open_gate(disk, file)
 }

@@ -1,7 +1,7 @@
 //! The writer of a plot file.
 ghost use Rattle.std.specs.Prelude.{◌≡◌, ◌<◌, ◌≤◌, ◌∷◌, [], ◌++◌, ℕ, List, length, IfOk, OnOk};
 ghost use Rattle.pos_bits.specs.Bits.{AreBytes};
-ghost use Rattle.pos_layout.specs.Layouts.{own};
+ghost use Rattle.pos_layout.specs.Layouts.{full_of, memo_of};
 ghost use Rattle.pos_layout.specs.Files.{file_of, parks_in};
 ghost use Rattle.pos_layout.specs.Drafts.{Draft, Keeps, Stands, begun, added, table_ended, plot_of, count_so_far, SameTable, IsFinished};
 ghost use Rattle.pos_layout.specs.Images.{IsFresh, IsShut, IsShutOr, IsTinyOrShut};
@@ -9,22 +9,25 @@ ghost use Rattle.pos_layout.specs.Writing.{Works, IsStanding, Goes, IsBegun, May
 
 use crate::entry::park_entry;
 use crate::shut::{append, begin_shut, finish_shut};
-use crate::{Column, GREATEST_SIZE, HEADER_BYTES, Header, encode_header};
+use crate::{Column, HEADER_BYTES, Header, Layout, encode_header};
 use pos_edge::{Disk, FileId, WorkFault};
-use pos_rice::{MOST_NUMBERS, encode_park};
+use pos_rice::encode_park;
 use pos_tuple::{Id, Size};
 use std::alloc::Global;
 use std::marker::Model;
 
 /// Writes one plot file: the numbers of table 1 in rising order, then those of table 2, and so on to table 7.
 ///
-/// It keeps the numbers of one park and the directory of one table. Contracts see its file, the id, the size, the columns
-/// of the ended tables, and of the open one how many numbers it has, the least that may come next, the park and the
-/// directory so far. What it stands for, the lists of all tables, is said of it and of the disk by `Stands`.
+/// It keeps the numbers of one park and the directory of one table. Contracts see its file, the layout, the memo's length,
+/// the id, the size, the columns of the ended tables, and of the open one how many numbers it has, the least that may come
+/// next, the park and the directory so far. What it stands for, the lists of all tables, is said of it and of the disk by
+/// `Stands`.
 #[derive(Drop)]
 pub struct PlotWriter {
     alloc: Global,
     file: FileId,
+    layout: Layout,
+    memo_length: u16,
     id: Id,
     size: Size,
     columns: [Column; 7],
@@ -44,6 +47,8 @@ impl Model for PlotWriter {
 
     ghost view = { λ w. record {
       file = w.file.0;
+      layout = w.layout;
+      memo_length = w.memo_length;
       id = w.id.0;
       size = w.size;
       columns = take w.ended w.columns;
@@ -60,25 +65,30 @@ impl Model for PlotWriter {
 impl PlotWriter {
     /// Begins the file of a plot: writes one closed gate byte, syncs it, and only then writes more.
     ///
-    /// The file is live and empty, and the size at most 32. After a fault the file does not open.
+    /// The file is live and empty, and the memo as long as the layout allows. After a fault the file does not open.
     pub fn begin<D: Disk>(
         alloc: Global,
         file: FileId,
+        layout: Layout,
+        memo: &[u8],
         id: &Id,
         size: Size,
         disk: &mut D,
     ) -> Result<PlotWriter, WorkFault>
-        requires size { size ≤ GREATEST_SIZE }
+        requires memo { length memo.now ≤ memo_of layout }
         requires fresh { IsFresh file.0 (D.view disk.old) }
         ensures works { Works IsTinyOrShut file.0 result (D.view disk.old) (D.view disk.new) }
-        ensures begun { IfOk result (IsBegun file.0 size) }
-        ensures ok { IfOk result (λ w. Stands own w (begun id.now.0 size) (D.view disk.new)) }
+        ensures begun { IfOk result (IsBegun file.0 layout size) }
+        ensures ok { IfOk result (λ w. Stands w (begun layout memo.now id.now.0 size) (D.view disk.new)) }
     {
         are_id_bytes(&id.0);
-        begin_shut(disk, file)?;
+        are_bytes(memo);
+        begin_shut(disk, file, memo)?;
         Ok(PlotWriter {
             alloc,
             file,
+            layout,
+            memo_length: memo.len() as u16,
             id: *id,
             size,
             columns: [Column {
@@ -90,7 +100,7 @@ impl PlotWriter {
             least: 0,
             park: Vec::new(alloc),
             entries: Vec::new(alloc),
-            file_length: HEADER_BYTES as u64,
+            file_length: (HEADER_BYTES + memo.len()) as u64,
         })
     }
 
@@ -110,7 +120,7 @@ impl PlotWriter {
         self.park.push(number).map_err(|_| WorkFault::Memory)?;
         self.count += 1;
         self.least = number + 1;
-        if self.park.len() == MOST_NUMBERS {
+        if self.park.len() == self.layout.full_park() {
             self.write_park(disk)?;
         }
         Ok(())
@@ -138,15 +148,17 @@ impl PlotWriter {
     pub fn finish<D: Disk>(self, disk: &mut D) -> Result<u64, WorkFault>
         requires stands { IsStanding self (D.view disk.old) }
         requires tables { length self.columns ≡ 7 }
-        ensures works { (p : Draft) → Stands own self p (D.view disk.old)
-            → Works (IsShutOr (file_of own (plot_of p))) self.file result (D.view disk.old) (D.view disk.new) }
-        ensures ok { IfOk result (λ total. (p : Draft) → Stands own self p (D.view disk.old)
-            → IsFinished own self.file (plot_of p) total (D.view disk.new)) }
+        ensures works { (p : Draft) → Stands self p (D.view disk.old)
+            → Works (IsShutOr (file_of p.layout p.memo (plot_of p))) self.file result (D.view disk.old) (D.view disk.new) }
+        ensures ok { IfOk result (λ total. (p : Draft) → Stands self p (D.view disk.old)
+            → IsFinished p.layout p.memo self.file (plot_of p) total (D.view disk.new)) }
     {
         let columns = self.columns;
         let bytes = encode_header(&Header {
+            layout: self.layout,
             id: self.id,
             size: self.size,
+            memo_length: self.memo_length,
             columns,
             file_length: self.file_length,
         });
@@ -156,20 +168,21 @@ impl PlotWriter {
 
     /// Writes the numbers that are not in the file yet as a park.
     fn write_park<D: Disk>(&mut self, disk: &mut D) -> Result<(), WorkFault>
-        requires keeps { (p : Draft) × (parks : List (List ℕ)) × Keeps own self.old p parks (D.view disk.old) }
+        requires keeps { (p : Draft) × (parks : List (List ℕ)) × Keeps self.old p parks (D.view disk.old) }
         requires tables { length self.old.columns < 7 }
         requires some { 1 ≤ length self.old.park }
-        requires few { length self.old.park ≤ MOST_NUMBERS }
+        requires few { length self.old.park ≤ full_of self.old.layout }
         ensures works { Works IsShut self.old.file result (D.view disk.old) (D.view disk.new) }
         ensures same { SameTable self.old self.new }
         ensures park { OnOk result (self.new.park ≡ []) }
-        ensures ok { OnOk result ((p : Draft) (parks : List (List ℕ)) → Keeps own self.old p parks (D.view disk.old)
-            → Keeps own self.new p (parks ++ self.old.park ∷ []) (D.view disk.new)) }
+        ensures ok { OnOk result ((p : Draft) (parks : List (List ℕ)) → Keeps self.old p parks (D.view disk.old)
+            → Keeps self.new p (parks ++ self.old.park ∷ []) (D.view disk.new)) }
     {
         let park = encode_park(self.alloc, self.size.k(), &self.park).map_err(
             |_| WorkFault::Memory,
         )?;
         let entry = park_entry(
+            self.layout,
             self.size,
             self.ended + 1,
             self.file_length,
@@ -177,7 +190,7 @@ impl PlotWriter {
             &park,
         );
         self.entries
-            .extend_from_slice(&entry)
+            .extend_from_slice(&entry[..self.layout.entry_bytes()])
             .map_err(|_| WorkFault::Memory)?;
         append(disk, self.file, self.file_length, &park)?;
         self.file_length += park.len() as u64;
@@ -192,8 +205,8 @@ impl PlotWriter {
         ensures works { Works IsShut self.old.file result (D.view disk.old) (D.view disk.new) }
         ensures same { SameTable self.old self.new }
         ensures park { OnOk result (self.new.park ≡ []) }
-        ensures ok { OnOk result ((p : Draft) → Stands own self.old p (D.view disk.old)
-            → Keeps own self.new p (parks_in own p.numbers) (D.view disk.new)) }
+        ensures ok { OnOk result ((p : Draft) → Stands self.old p (D.view disk.old)
+            → Keeps self.new p (parks_in p.layout p.numbers) (D.view disk.new)) }
     {
         if self.park.is_empty() {
             return Ok(());
@@ -203,14 +216,14 @@ impl PlotWriter {
 
     /// Writes the directory of the open table, whose parks are all in the file, and opens the next table.
     fn write_directory<D: Disk>(&mut self, disk: &mut D) -> Result<(), WorkFault>
-        requires keeps { (p : Draft) × (parks : List (List ℕ)) × Keeps own self.old p parks (D.view disk.old) }
+        requires keeps { (p : Draft) × (parks : List (List ℕ)) × Keeps self.old p parks (D.view disk.old) }
         requires tables { length self.old.columns < 7 }
         requires written { self.old.park ≡ [] }
         ensures works { Works IsShut self.old.file result (D.view disk.old) (D.view disk.new) }
         ensures same { SameFile self.old self.new }
         ensures next { OnOk result (OpensNext self.old self.new) }
-        ensures ok { OnOk result ((p : Draft) → Keeps own self.old p (parks_in own p.numbers) (D.view disk.old)
-            → Keeps own self.new (table_ended p) [] (D.view disk.new)) }
+        ensures ok { OnOk result ((p : Draft) → Keeps self.old p (parks_in p.layout p.numbers) (D.view disk.old)
+            → Keeps self.new (table_ended p) [] (D.view disk.new)) }
         ensures park { OnOk result (self.new.park ≡ []) }
     {
         append(disk, self.file, self.file_length, &self.entries)?;

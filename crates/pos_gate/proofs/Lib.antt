@@ -1,0 +1,3 @@
+pub mod GateLemmas
+mod LookLemmas
+pub mod WorksLemmas
