@@ -6,11 +6,13 @@ use Rattle.std.proofs.lemmas.Bool.Decides.{nat_tests}
 use Rattle.std.proofs.lemmas.List.{drop-take, drop_all, get_or-take, length-replicate, length-take-le, take_all}
 use Rattle.pos_layout.specs.declared.header.Header.{Header}
 use Rattle.pos_layout.specs.declared.damage.Damage.TheVariants.{NotOpen, Header as WrongHeader, Length}
-use Rattle.pos_layout.specs.Bytes.{part, eight_at}
-use Rattle.pos_layout.specs.Layouts.{own}
-use Rattle.pos_layout.specs.Fields.{column_in, gate_in, header_in}
+use Rattle.pos_layout.specs.Bytes.{part, two_at, eight_at}
+use Rattle.pos_layout.specs.declared.layout.Layout.{Layout}
+use Rattle.pos_layout.specs.Layouts.{zeros_of}
+use Rattle.pos_layout.specs.Fields.{column_in, gate_in, header_in, layout_in}
 use Rattle.pos_layout.specs.Damages.{first_found, header_fault, is_placed, directory_fault, opening}
 use Rattle.pos_layout.specs.Rules.{IsPlaced, IsLaidOut}
+use Rattle.pos_layout.proofs.LayoutLemmas.{zeros_few}
 use Rattle.pos_reader.proofs.HeaderLemmas.{IsRight, both_left, both_right, eq_means, le_means, first_none, header_right, is_gated, short_gate, opening-gate, places_none}
 
 -- ---- what the tests mean
@@ -26,7 +28,7 @@ none_under f (Some a) e = cc
 either_means : (count directory before : ℕ) → (not (count == 0) || (directory == before)) ≡ true → count ≡ 0 → directory ≡ before
 either_means count directory before e none = grind (arith, nat_tests)
 
-placed_means : (h : Header) (t : ℕ) → is_placed own h t ≡ true → IsPlaced own h t
+placed_means : (h : Header) (t : ℕ) → is_placed h.layout h t ≡ true → IsPlaced h.layout h t
 placed_means h t e = record {
   after = le_means _ _ (both_left _ _ (both_left _ _ e));
   inside = le_means _ _ (both_right _ _ (both_left _ _ e));
@@ -39,17 +41,17 @@ pub record IsGood (b : List ℕ) (n : ℕ) : Type 0 where
   pub gate : gate_in b ≡ 1
   pub right : IsRight b
   pub said : (header_in b).file_length ≡ n
-  pub laid_out : IsLaidOut own (header_in b)
+  pub laid_out : IsLaidOut (header_in b).layout (header_in b)
 
-pub good-from_opening : (b : List ℕ) (n : ℕ) → opening own b n ≡ None → IsGood b n
-unfolding opening
+pub good-from_opening : (b : List ℕ) (n : ℕ) → opening (layout_in b) b n ≡ None → IsGood b n
+unfolding opening header_in
 good-from_opening b n none =
     let h = header_in b in
     let gate = first_none (is_gated b n) (NotOpen n (gate_in b)) _ none in
-    let header = none_first (option_map (λ field. WrongHeader field) (header_fault own b)) _ gate.1 in
+    let header = none_first (option_map (λ field. WrongHeader field) (header_fault (layout_in b) b)) _ gate.1 in
     let said = first_none (h.file_length == n) (Length h.file_length n) _ header.1 in
-    let directory = none_first (directory_fault own h) [] said.1 in
-    let right = header_right b (none_under _ (header_fault own b) header.0) in
+    let directory = none_first (directory_fault h.layout h) [] said.1 in
+    let right = header_right b (none_under _ (header_fault (layout_in b) b) header.0) in
     let places = places_none h directory.0 in
     record {
       long = le_means _ _ (both_left _ _ gate.0);
@@ -59,6 +61,7 @@ good-from_opening b n none =
       laid_out = record {
         least = right.least;
         greatest = right.counts.size;
+        memo = right.memo;
         counts = right.counts.counts;
         placed = λ t first last. placed_means h t (places.0 t first last);
         whole = eq_means _ _ places.1;
@@ -91,15 +94,28 @@ column_front b t last = rw (eight_front b (40 + 16 * t) (omega arith), eight_fro
 gate_front : (b : List ℕ) → gate_in (take 176 b) ≡ gate_in b
 gate_front b = get_or-take 176 b 0 0 (omega arith)
 
+two_front : (b : List ℕ) (at : ℕ) → at + 2 ≤ 176 → two_at (take 176 b) at ≡ two_at b at
+unfolding two_at
+two_front b at within = rw (part_front b 176 at 2 within) refl
+
+layout_front : (b : List ℕ) → layout_in (take 176 b) ≡ layout_in b
+unfolding layout_in
+layout_front b = rw (part_front b 176 1 15 (omega arith)) refl
+
 pub header_front : (b : List ℕ) → header_in (take 176 b) ≡ header_in b
 unfolding header_in
 header_front b =
     let size = get_or-take 176 b 48 0 (omega arith) in
-    rw (part_front b 176 16 32 (omega arith), size, column_front b 1 (omega arith), column_front b 2 (omega arith), column_front b 3 (omega arith), column_front b 4 (omega arith), column_front b 5 (omega arith), column_front b 6 (omega arith), column_front b 7 (omega arith), eight_front b 168 (omega arith)) refl
+    rw (layout_front b, part_front b 176 16 32 (omega arith), size, two_front b 49 (omega arith), column_front b 1 (omega arith), column_front b 2 (omega arith), column_front b 3 (omega arith), column_front b 4 (omega arith), column_front b 5 (omega arith), column_front b 6 (omega arith), column_front b 7 (omega arith), eight_front b 168 (omega arith)) refl
 
-pub opening_front : (b : List ℕ) (n : ℕ) → opening own (take 176 b) n ≡ opening own b n
+front_found : (l : Layout) (b : List ℕ) (n : ℕ) → opening l (take 176 b) n ≡ opening l b n
 unfolding opening header_fault
-opening_front b n = rw (gate_front b, part_front b 176 1 15 (omega arith), part_front b 176 49 7 (omega arith), header_front b) refl
+front_found l b n =
+    let few = zeros_few l in
+    rw (gate_front b, part_front b 176 1 15 (omega arith), part_front b 176 (56 - zeros_of l) (zeros_of l) (omega arith), header_front b) refl
+
+pub opening_front : (b : List ℕ) (n : ℕ) → opening (layout_in (take 176 b)) (take 176 b) n ≡ opening (layout_in b) b n
+opening_front b n = ap (λ l. opening l (take 176 b) n) (layout_front b) ∙ front_found (layout_in b) b n
 
 -- ---- the first bytes as they are read
 
@@ -125,7 +141,7 @@ gate_padded [] padded n len are short = rw (are, len) refl
 gate_padded (x ∷ b) padded n len are short = rw are refl
 
 -- opening finds in that buffer what it finds in the file
-pub opening_padded : (b padded : List ℕ) (n : ℕ) → n ≡ length b → padded ≡ take 176 b ++ drop n (replicate 176 0) → opening own padded n ≡ opening own b n
+pub opening_padded : (b padded : List ℕ) (n : ℕ) → n ≡ length b → padded ≡ take 176 b ++ drop n (replicate 176 0) → opening (layout_in padded) padded n ≡ opening (layout_in b) b n
 opening_padded b padded n len are = elim (cases_lt n 176) [
   | inl short ↦ let e : gate_in padded ≡ gate_in b = gate_padded b padded n len are short in
       opening-gate padded n (short_gate padded n short) ∙ ap (λ gate. Some (NotOpen n gate)) e ∙ sym (opening-gate b n (short_gate b n short))

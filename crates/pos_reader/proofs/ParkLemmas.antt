@@ -1,5 +1,5 @@
 -- The tests of a park, one after another, and line points below a limit.
-use Rattle.std.proofs.Common.{◌≡◌, ℕ, ◌+◌, ◌-◌, ◌*◌, ◌/◌, ◌%◌, ◌^◌, ◌<◌, ◌≤◌, ◌≢◌, nat_lt, ◌||◌, not, refl, sym, ◌∙◌, arith, Bool, true, false, ◌&&◌, List, take, slice_index, Some, None, Ok, Err, inl, inr, add-one, pow-suc}
+use Rattle.std.proofs.Common.{◌≡◌, ℕ, ◌+◌, ◌-◌, ◌*◌, ◌/◌, ◌%◌, ◌^◌, ◌<◌, ◌≤◌, ◌≢◌, nat_lt, ◌||◌, refl, sym, ◌∙◌, arith, Bool, true, false, ◌&&◌, List, take, slice_index, Some, None, Ok, Err, inl, inr, add-one, pow-suc}
 use Rattle.std.specs.Str.{bytes_eq}
 use Rattle.std.proofs.lemmas.Bool.{false≢true, cases_lt}
 use Rattle.std.proofs.lemmas.Bool.Decides.{nat_tests}
@@ -10,7 +10,8 @@ use Rattle.pos_rice.specs.Reading.{numbers_in}
 use Rattle.pos_layout.specs.declared.header.Header.{Header}
 use Rattle.pos_layout.specs.declared.entry.ParkEntry.{ParkEntry}
 use Rattle.pos_layout.specs.declared.damage.Damage.TheVariants.{Directory, Digest, Form as WrongForm}
-use Rattle.pos_layout.specs.Layouts.{own}
+use Rattle.pos_layout.specs.declared.layout.Layout.{Layout}
+use Rattle.pos_layout.specs.Layouts.{digest_of}
 use Rattle.pos_layout.specs.Lists.{points_inside}
 use Rattle.pos_lists.specs.PlotLists.{f7_in}
 use Rattle.pos_reader.proofs.HeaderLemmas.{eq_true, eq_false}
@@ -19,22 +20,22 @@ use Rattle.pos_layout.specs.Reading.{is_headed, numbers_by}
 -- ---- the numbers of a park by its entry
 
 -- the park's digest is the entry's
-abbrev pub is_digest : ParkEntry → List ℕ → Bool
-is_digest e s = bytes_eq (take 8 (sha256 s)) e.digest
+abbrev pub is_digest : Layout → ParkEntry → List ℕ → Bool
+is_digest l e s = bytes_eq (take (digest_of l) (sha256 s)) e.digest
 
-pub numbers-digest : (h : Header) (t park : ℕ) (e : ParkEntry) (s : List ℕ) → is_digest e s ≡ false → numbers_by own h t park e s ≡ Err (Digest t park)
+pub numbers-digest : (h : Header) (t park : ℕ) (e : ParkEntry) (s : List ℕ) → is_digest h.layout e s ≡ false → numbers_by h.layout h t park e s ≡ Err (Digest t park)
 unfolding numbers_by
 numbers-digest h t park e s wrong = rw wrong refl
 
-pub numbers-form : (h : Header) (t park : ℕ) (e : ParkEntry) (s : List ℕ) → is_digest e s ≡ true → numbers_in h.size e.count s ≡ None → numbers_by own h t park e s ≡ Err (WrongForm t park)
+pub numbers-form : (h : Header) (t park : ℕ) (e : ParkEntry) (s : List ℕ) → is_digest h.layout e s ≡ true → numbers_in h.size e.count s ≡ None → numbers_by h.layout h t park e s ≡ Err (WrongForm t park)
 unfolding numbers_by
 numbers-form h t park e s right none = rw (right, none) refl
 
-pub numbers-head : (h : Header) (t park : ℕ) (e : ParkEntry) (s ns : List ℕ) → is_digest e s ≡ true → numbers_in h.size e.count s ≡ Some ns → is_headed h t e ns ≡ false → numbers_by own h t park e s ≡ Err (Directory t park)
+pub numbers-head : (h : Header) (t park : ℕ) (e : ParkEntry) (s ns : List ℕ) → is_digest h.layout e s ≡ true → numbers_in h.size e.count s ≡ Some ns → is_headed h t e ns ≡ false → numbers_by h.layout h t park e s ≡ Err (Directory t park)
 unfolding numbers_by
 numbers-head h t park e s ns right some wrong = rw (right, some, wrong) refl
 
-pub numbers-all : (h : Header) (t park : ℕ) (e : ParkEntry) (s ns : List ℕ) → is_digest e s ≡ true → numbers_in h.size e.count s ≡ Some ns → is_headed h t e ns ≡ true → numbers_by own h t park e s ≡ Ok ns
+pub numbers-all : (h : Header) (t park : ℕ) (e : ParkEntry) (s ns : List ℕ) → is_digest h.layout e s ≡ true → numbers_in h.size e.count s ≡ Some ns → is_headed h t e ns ≡ true → numbers_by h.layout h t park e s ≡ Ok ns
 unfolding numbers_by
 numbers-all h t park e s ns right some headed = rw (right, some, headed) refl
 
@@ -60,14 +61,6 @@ point_below s limit = elim (cases_lt (greater s) limit) [
     ]
 
 -- ---- the head of a park
-
-pub not_means : (b : Bool) → not b ≡ true → b ≡ false
-not_means true e = absurd (false≢true e)
-not_means false e = refl
-
-pub not_not : (b : Bool) → not b ≡ false → b ≡ true
-not_not true e = refl
-not_not false e = absurd (false≢true (sym e))
 
 pub headed_elsewhere : (h : Header) (t : ℕ) (e : ParkEntry) (ns : List ℕ) → t ≢ 7 → is_headed h t e ns ≡ true
 headed_elsewhere h t e ns apart = rw (eq_false t 7 apart) refl

@@ -1,11 +1,11 @@
 -- Reads one after another, and what they leave of an open plot.
-use Rattle.std.proofs.Common.{◌≡◌, ℕ, ◌+◌, ◌≤◌, List, IsSome, Result, Ok, Err, IsErrOf, sym, ap, ◌∙◌, subst, arith}
+use Rattle.std.proofs.Common.{◌≡◌, ℕ, ◌+◌, ◌≤◌, true, List, IsSome, Result, Ok, Err, IsErrOf, sym, ap, ◌∙◌, subst, arith}
 use Rattle.pos_edge.specs.Faults.{Rose}
 use Rattle.pos_edge.specs.View.{View}
 use Rattle.pos_edge.specs.Frame.{ChangesOnly, Nothing, NameOf, SameFaults, SameFaultsBut}
 use Rattle.pos_edge.proofs.Frames.{frame_then}
-use Rattle.pos_layout.specs.Layouts.{Layout, own}
-use Rattle.pos_reader.specs.Plots.{PlotState, IsOpen, IsPlotFile, OnlyReads}
+use Rattle.pos_layout.specs.declared.header.Header.{Header}
+use Rattle.pos_reader.specs.Plots.{PlotState, IsOpen, HoldsPlot, IsPlotFile, OnlyReads}
 use Rattle.pos_reader.specs.Readings.{CountsFaults, LeavesPlot}
 
 -- two calls that only read are one
@@ -34,21 +34,33 @@ IsOpen-kept names ids p a b frame apart other is =
     }
 
 -- and its file keeps its bytes
-pub IsPlotFile-kept : (l : Layout) (names : List ℕ → Type 0) (ids : ℕ → Type 0) (p : PlotState) (bytes : List ℕ) (a b : View) → ChangesOnly names ids a b
-    → (ids p.file → ⊥) → ((n : List ℕ) → NameOf p.file a n → names n → ⊥) → IsOpen p a → IsPlotFile l p bytes a → IsPlotFile l p bytes b
-IsPlotFile-kept l names ids p bytes a b frame apart other is holds = record {
+holds_kept : (names : List ℕ → Type 0) (ids : ℕ → Type 0) (file : ℕ) (h : Header) (memo bytes : List ℕ) (a b : View) → ChangesOnly names ids a b
+    → (ids file → ⊥) → ((n : List ℕ) → NameOf file a n → names n → ⊥) → a.is_live file ≡ true → HoldsPlot file h memo bytes a → HoldsPlot file h memo bytes b
+holds_kept names ids file h memo bytes a b frame apart other live holds = record {
   name = holds.name;
-  named = frame.name p.file is.live apart other ∙ holds.named;
+  named = frame.name file live apart other ∙ holds.named;
   contents = frame.contents holds.name (other holds.name holds.named) ∙ holds.contents;
   opens = holds.opens;
   header = holds.header;
+  memo_is = holds.memo_is;
 }
+
+pub IsPlotFile-kept : (names : List ℕ → Type 0) (ids : ℕ → Type 0) (p : PlotState) (bytes : List ℕ) (a b : View) → ChangesOnly names ids a b
+    → (ids p.file → ⊥) → ((n : List ℕ) → NameOf p.file a n → names n → ⊥) → IsOpen p a → IsPlotFile p bytes a → IsPlotFile p bytes b
+IsPlotFile-kept names ids p bytes a b frame apart other is holds = holds_kept names ids p.file p.header p.memo bytes a b frame apart other is.live holds
 
 pub open_after : (n : ℕ) (p : PlotState) (a b : View) → OnlyReads n a b → IsOpen p a → IsOpen p b
 open_after n p a b reads is = IsOpen-kept Nothing Nothing p a b reads.kept (λ x. x) (λ name named x. x) is
 
-pub file_after : (l : Layout) (n : ℕ) (p : PlotState) (bytes : List ℕ) (a b : View) → OnlyReads n a b → IsOpen p a → IsPlotFile l p bytes a → IsPlotFile l p bytes b
-file_after l n p bytes a b reads is holds = IsPlotFile-kept l Nothing Nothing p bytes a b reads.kept (λ x. x) (λ name named x. x) is holds
+pub file_after : (n : ℕ) (p : PlotState) (bytes : List ℕ) (a b : View) → OnlyReads n a b → IsOpen p a → IsPlotFile p bytes a → IsPlotFile p bytes b
+file_after n p bytes a b reads is holds = IsPlotFile-kept Nothing Nothing p bytes a b reads.kept (λ x. x) (λ name named x. x) is holds
+
+pub holds_after : (n file : ℕ) (h : Header) (memo bytes : List ℕ) (a b : View) → OnlyReads n a b → a.is_live file ≡ true → HoldsPlot file h memo bytes a → HoldsPlot file h memo bytes b
+holds_after n file h memo bytes a b reads live holds = holds_kept Nothing Nothing file h memo bytes a b reads.kept (λ x. x) (λ name named x. x) live holds
+
+-- an open file keeps its size
+pub size_after : (n file : ℕ) (a b : View) → OnlyReads n a b → a.is_live file ≡ true → b.size_of file ≡ a.size_of file
+size_after n file a b reads live = reads.kept.size file live (λ x. x)
 
 -- ---- counts of faults, over a call and what comes before it
 
@@ -89,5 +101,5 @@ leaves_plot n p q a b same reads is = record {
   same = same;
   reads = reads;
   stays_open = rw same (open_after n p a b reads is);
-  stays_file = λ bytes holds. rw same (file_after own n p bytes a b reads is holds);
+  stays_file = λ bytes holds. rw same (file_after n p bytes a b reads is holds);
 }

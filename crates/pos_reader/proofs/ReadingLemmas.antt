@@ -1,5 +1,6 @@
 -- Calls on an open plot, one after another.
-use Rattle.std.proofs.Common.{◌≡◌, ℕ, ◌+◌, ◌≤◌, Result, Ok, Err, ◌∙◌}
+use Rattle.std.proofs.Common.{◌≡◌, ℕ, suc, ◌+◌, ◌-◌, ◌*◌, ◌<◌, ◌≤◌, Result, Ok, Err, ◌∙◌, arith}
+use Rattle.std.proofs.Math.Nat.{mul-le-mul_left, mul-suc}
 use Rattle.pos_edge.specs.View.{View}
 use Rattle.pos_layout.specs.declared.damage.Damage.{Damage}
 use Rattle.pos_reader.specs.declared.refusal.ReadRefusal.{ReadRefusal}
@@ -55,3 +56,31 @@ reading_damaged m most x d p q a b few h = record {
   left = leaves_more m most p q a b few h.left;
   faults = faults_none DiskFailed (Err (Found d)) a b h.faults.quiet (λ e. cc);
 }
+
+-- ---- so many reads for each place or each challenge, from a first one on
+
+pub steps_more : (n first place : ℕ) → first ≤ place → n * (place - first) + n ≤ n * (place + 1 - first)
+steps_more n first place from =
+    let e : place + 1 - first ≡ suc (place - first) = omega arith in
+    rw (e, mul-suc) (omega arith)
+
+pub steps_to : (n first place second : ℕ) → first ≤ place → place < second → n * (place - first) + n ≤ n * (second - first)
+steps_to n first place second from to =
+    let a = steps_more n first place from in
+    let b : n * (place + 1 - first) ≤ n * (second - first) = mul-le-mul_left n (omega arith) in
+    omega arith
+
+-- one more
+pub read_more : {X Y : Type 0} (n first place : ℕ) (x : X) (y : Y) (p q r : PlotState) (a v w : View) → first ≤ place
+    → IsReading (n * (place - first)) (Ok y) p q a v → IsReading n (Ok x) q r v w → IsReading (n * (place + 1 - first)) (Ok y) p r a w
+read_more n first place x y p q r a v w from far step =
+    reading_done (n * (place + 1 - first)) (n * (place + 1 - first)) x y p r a w (omega arith)
+    (reading_after (n * (place - first)) n (n * (place + 1 - first)) y (Ok x) p q r a v w (steps_more n first place from) far step)
+
+-- one that is refused
+pub read_refused : {X Y Z : Type 0} (n first place second : ℕ) (y : Y) (refusal : ReadRefusal) (result : Result Z ReadRefusal) (p q r : PlotState) (a v w : View)
+    → first ≤ place → place < second → IsReading (n * (place - first)) (Ok y) p q a v → IsReading {X = X} n (Err refusal) q r v w
+    → result ≡ Err refusal → IsReading (n * (second - first)) result p r a w
+read_refused n first place second y refusal result p q r a v w from to far step is =
+    reading_after (n * (place - first)) n (n * (second - first)) y result p q r a v w (steps_to n first place second from to) far
+    (reading_refused n n refusal result q r v w (omega arith) is step)

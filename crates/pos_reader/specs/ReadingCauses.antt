@@ -9,7 +9,8 @@ use Rattle.pos_layout.specs.declared.header.Header.{Header}
 use Rattle.pos_layout.specs.declared.entry.ParkEntry.{ParkEntry}
 use Rattle.pos_layout.specs.declared.damage.Damage.{Damage}
 use Rattle.pos_layout.specs.declared.damage.Damage.TheVariants.{Directory, Digest, Form as WrongForm, Pointer}
-use Rattle.pos_layout.specs.Layouts.{Layout, longest_park, park_count}
+use Rattle.pos_layout.specs.declared.layout.Layout.{Layout}
+use Rattle.pos_layout.specs.Layouts.{full_of, digest_of, longest_park, park_count}
 use Rattle.pos_layout.specs.Lists.{points_inside}
 use Rattle.pos_layout.specs.Fields.{header_in, count_of, directory_of, end_of, entry_in, park_in}
 
@@ -24,7 +25,7 @@ pub record IsListed (l : Layout) (h : Header) (t park : ℕ) (e : ParkEntry) : T
 
 -- the park's bytes have the digest that its entry says
 abbrev pub IsDigested : Layout → List ℕ → ParkEntry → Type 0
-IsDigested l b e = take l.digest (sha256 (park_in b e)) ≡ e.digest
+IsDigested l b e = take (digest_of l) (sha256 (park_in b e)) ≡ e.digest
 
 -- and are the park of these numbers, so many as the entry says
 pub record HoldsPark (l : Layout) (b : List ℕ) (t park : ℕ) (ns : List ℕ) : Type 0 where
@@ -64,6 +65,6 @@ pub record ReadsAs (l : Layout) (b : List ℕ) (t park : ℕ) (ns : List ℕ) : 
 abbrev pub NumberCause : Layout → List ℕ → ℕ → ℕ → Damage → Type 0
 NumberCause l b t i (Pointer u at) =
     (u ≡ t) × (at ≡ i)
-    × ((ns : List ℕ) × ReadsAs l b t (i / l.full) ns
-    × (points_inside (header_in b).size t (count_of (header_in b) (t - 1)) (slice_index ns (i % l.full)) ≡ false))
-NumberCause l b t i d = ParkCause l b t (i / l.full) d
+    × ((ns : List ℕ) × ReadsAs l b t (i / full_of l) ns
+    × (points_inside (header_in b).size t (count_of (header_in b) (t - 1)) (slice_index ns (i % full_of l)) ≡ false))
+NumberCause l b t i d = ParkCause l b t (i / full_of l) d

@@ -3,8 +3,9 @@ use Rattle.std.specs.Prelude.{◌≡◌, ℕ, true, false, List, Result, Some, I
 use Rattle.pos_edge.specs.Faults.{Rose}
 use Rattle.pos_edge.specs.View.{View}
 use Rattle.pos_edge.specs.Frame.{Just, KeepsIds, NameOf, SameFaultsBut}
-use Rattle.pos_layout.specs.Layouts.{own}
 use Rattle.pos_layout.specs.Rules.{IsLaidOut}
+use Rattle.pos_reader.specs.declared.refusal.OpenRefusal.{OpenRefusal}
+use Rattle.pos_reader.specs.declared.refusal.OpenRefusal.TheVariants.{DiskFailed as OpenFailed, Memory}
 use Rattle.pos_reader.specs.declared.refusal.ReadRefusal.{ReadRefusal}
 use Rattle.pos_reader.specs.declared.refusal.ReadRefusal.TheVariants.{DiskFailed}
 use Rattle.pos_reader.specs.Plots.{PlotState, IsOpen, IsPlotFile, OnlyReads}
@@ -14,7 +15,7 @@ pub record LeavesPlot (most : ℕ) (p q : PlotState) (old new : View) : Type 0 w
   pub same : q ≡ p
   pub reads : OnlyReads most old new
   pub stays_open : IsOpen q new
-  pub stays_file : (b : List ℕ) → IsPlotFile own p b old → IsPlotFile own q b new
+  pub stays_file : (b : List ℕ) → IsPlotFile p b old → IsPlotFile q b new
 
 -- The count of faults rose where this fault is answered, and is as it was where it is not.
 pub record CountsFaults {X E : Type 0} (fault : E) (result : Result X E) (old new : View) : Type 0 where
@@ -27,11 +28,17 @@ pub record IsReading {X : Type 0} (most : ℕ) (result : Result X ReadRefusal) (
   pub faults : CountsFaults DiskFailed result old new
 
 -- The plot is that of the file of this name, by a FileId that was not live, and no other FileId has changed. Over a disk
--- that tells, the file's bytes open, and have the plot's header.
+-- that tells, the file's bytes open, and have the plot's header and memo.
 pub record IsPlotOpened (name : List ℕ) (p : PlotState) (old new : View) : Type 0 where
   pub fresh : old.is_live p.file ≡ false
   pub others : KeepsIds (Just p.file) old new
   pub is_open : IsOpen p new
-  pub laid_out : IsLaidOut own p.header
+  pub laid_out : IsLaidOut p.header.layout p.header
   pub named : old.tells ≡ true → NameOf p.file new name
-  pub holds : old.tells ≡ true → (b : List ℕ) × (old.contents name ≡ Some b) × IsPlotFile own p b new
+  pub holds : old.tells ≡ true → (b : List ℕ) × (old.contents name ≡ Some b) × IsPlotFile p b new
+
+-- the refusals of a file whose header opens
+abbrev pub IsOpenFault : OpenRefusal → Type 0
+IsOpenFault OpenFailed = Unit {0}
+IsOpenFault Memory = Unit {0}
+IsOpenFault _ = ⊥

@@ -4,7 +4,8 @@
 use Rattle.std.specs.Prelude.{◌≡◌, ℕ, ◌+◌, ◌-◌, ◌*◌, ◌/◌, ◌^◌, ◌<◌, ◌≤◌, ◌⊎◌, List, Ok, Err}
 use Rattle.pos_tuple.specs.Proof.{challenge_value}
 use Rattle.pos_layout.specs.declared.damage.Damage.{Damage}
-use Rattle.pos_layout.specs.Layouts.{Layout, parks_of}
+use Rattle.pos_layout.specs.declared.layout.Layout.{Layout}
+use Rattle.pos_layout.specs.Layouts.{full_of, parks_of}
 use Rattle.pos_layout.specs.Fields.{count_of, header_in}
 use Rattle.pos_layout.specs.Reading.{head, under}
 
@@ -26,14 +27,14 @@ BeginsFrom l b f park = (n : ℕ) × (head l b park ≡ Ok n) × (f ≤ n)
 -- a next park begins at i, its head is not.
 pub record EndsIn (l : Layout) (b : List ℕ) (f park i : ℕ) : Type 0 where
   pub begins : BeginsBelow l b f park
-  pub counts : under l b park f ≡ Ok (i - l.full * park)
-  pub next : i ≡ l.full * (park + 1) → park + 1 < last_parks l b → BeginsFrom l b f (park + 1)
+  pub counts : under l b park f ≡ Ok (i - full_of l * park)
+  pub next : i ≡ full_of l * (park + 1) → park + 1 < last_parks l b → BeginsFrom l b f (park + 1)
 
 -- i is the first place of table 7 whose number has an f7 of f or above, as far as these reads show it
 pub record Bound (l : Layout) (b : List ℕ) (f i : ℕ) : Type 0 where
   pub inside : i ≤ last_count b
   pub none : i ≡ 0 → 0 < last_parks l b → BeginsFrom l b f 0
-  pub some : 0 < i → EndsIn l b f ((i - 1) / l.full) i
+  pub some : 0 < i → EndsIn l b f ((i - 1) / full_of l) i
 
 -- the places of table 7 from first up to, not with, second are those with the challenge's f7, as far as these reads show it
 pub record Span (l : Layout) (b c : List ℕ) (first second : ℕ) : Type 0 where

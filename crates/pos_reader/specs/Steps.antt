@@ -6,7 +6,8 @@ use Rattle.pos_layout.specs.declared.entry.ParkEntry.{ParkEntry}
 use Rattle.pos_layout.specs.declared.damage.Damage.{Damage}
 use Rattle.pos_layout.specs.declared.damage.Damage.TheVariants.{Directory}
 use Rattle.pos_layout.specs.declared.header.TheConstants.{GREATEST_SIZE}
-use Rattle.pos_layout.specs.Layouts.{Layout, parks_of}
+use Rattle.pos_layout.specs.declared.layout.Layout.{Layout}
+use Rattle.pos_layout.specs.Layouts.{parks_of}
 use Rattle.pos_layout.specs.Fields.{count_of, entry_of}
 use Rattle.pos_layout.specs.Reading.{tested, is_listed}
 

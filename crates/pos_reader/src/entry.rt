@@ -1,7 +1,6 @@
 //! From the bytes of a directory's entry to what it says of a park.
 ghost use Rattle.std.specs.Prelude.{◌≡◌, ◌-◌, length, false};
-ghost use Rattle.pos_layout.specs.declared.entry.TheConstants.{ENTRY_BYTES};
-ghost use Rattle.pos_layout.specs.Layouts.{own};
+ghost use Rattle.pos_layout.specs.Layouts.{entry_bytes};
 ghost use Rattle.pos_layout.specs.Reading.{is_listed};
 ghost use Rattle.pos_layout.specs.Rules.{IsLaidOut};
 ghost use Rattle.pos_reader.specs.Steps.{IsPark, listed};
@@ -16,12 +15,12 @@ pub(crate) fn listed_entry(
     park: u64,
     bytes: &[u8],
 ) -> Result<ParkEntry, Damage>
-    requires laid_out { IsLaidOut own header.now }
-    requires park { IsPark own header.now t park }
-    requires entry { length bytes.now ≡ ENTRY_BYTES }
-    ensures { result ≡ listed own header.now t park bytes.now }
+    requires laid_out { IsLaidOut header.now.layout header.now }
+    requires park { IsPark header.now.layout header.now t park }
+    requires entry { length bytes.now ≡ entry_bytes header.now.layout }
+    ensures { result ≡ listed header.now.layout header.now t park bytes.now }
 {
-    let entry = decode_entry(bytes);
+    let entry = decode_entry(header.layout, bytes);
     if is_listed(header, t, park, &entry) {
         Ok(entry)
     } else {
@@ -31,12 +30,12 @@ pub(crate) fn listed_entry(
 
 /// Whether an entry can be that of a park of table t, whatever it says.
 fn is_listed(header: &Header, t: u8, park: u64, entry: &ParkEntry) -> bool
-    requires laid_out { IsLaidOut own header.now }
-    requires park { IsPark own header.now t park }
-    ensures { result ≡ is_listed own header.now t park entry.now }
+    requires laid_out { IsLaidOut header.now.layout header.now }
+    requires park { IsPark header.now.layout header.now t park }
+    ensures { result ≡ is_listed header.now.layout header.now t park entry.now }
 {
     let length = entry.park_length;
-    if length == 0 || length > longest_park(header.size) {
+    if length == 0 || length > longest_park(header.layout, header.size) {
         return false;
     }
     let directory = header.columns[t as usize - 1].directory;
@@ -44,7 +43,7 @@ fn is_listed(header: &Header, t: u8, park: u64, entry: &ParkEntry) -> bool
     if !is_within(start, entry.offset, u64::from(length), directory) {
         return false;
     }
-    if entry.count != park_count(count_of(header, t), park) {
+    if entry.count != park_count(header.layout, count_of(header, t), park) {
         return false;
     }
     t == 7 || entry.head == 0

@@ -1,11 +1,11 @@
 //! From the first bytes of a file to the header of a plot that opens.
-ghost use Rattle.std.specs.Prelude.{◌≡◌, ◌↔◌, ◌-◌, ◌^◌, ◌+◌, ◌<◌, ◌≤◌, false, length, true, IfErr, IfNone, IfOk, IfSome, IsTrue, None, OnOk, OnSome, Some};
+ghost use Rattle.std.specs.Prelude.{◌≡◌, ◌↔◌, ◌-◌, ◌*◌, ◌^◌, ◌+◌, ◌<◌, ◌≤◌, false, length, true, IfErr, IfNone, IfOk, IfSome, IsTrue, None, OnOk, OnSome, Some};
 ghost use Rattle.pos_layout.specs.Damages.{directory_fault, is_placed, opening};
-ghost use Rattle.pos_layout.specs.Fields.{count_of, end_of, header_in};
-ghost use Rattle.pos_layout.specs.Layouts.{own};
+ghost use Rattle.pos_layout.specs.Fields.{count_of, end_of, header_in, layout_in};
+ghost use Rattle.pos_layout.specs.Layouts.{entry_bytes, parks_of};
 ghost use Rattle.pos_reader.specs.Steps.{HasCounts};
 
-use pos_layout::{Column, Damage, ENTRY_BYTES, HEADER_BYTES, Header, decode_header, parks_of};
+use pos_layout::{Column, Damage, HEADER_BYTES, Header, Layout, decode_header, parks_of};
 
 // Byte 0 of a plot file that is whole.
 const OPEN_GATE: u8 = 1;
@@ -15,8 +15,8 @@ const OPEN_GATE: u8 = 1;
 pub(crate) fn opened_header(bytes: &[u8], file_length: u64) -> Result<Header, Damage>
     requires { length bytes.now ≡ HEADER_BYTES }
     ensures ok { IfOk result (λ h. h ≡ header_in bytes.now) }
-    ensures no_damage { OnOk result (opening own bytes.now file_length ≡ None) }
-    ensures damage { IfErr result (λ d. opening own bytes.now file_length ≡ Some d) }
+    ensures no_damage { OnOk result (opening (layout_in bytes.now) bytes.now file_length ≡ None) }
+    ensures damage { IfErr result (λ d. opening (layout_in bytes.now) bytes.now file_length ≡ Some d) }
 {
     let gate = bytes[0];
     if file_length < HEADER_BYTES as u64 || gate != OPEN_GATE {
@@ -44,10 +44,10 @@ pub(crate) fn opened_header(bytes: &[u8], file_length: u64) -> Result<Header, Da
 /// Tests table by table that the directories lie where they can, and that the file ends with the last one.
 fn test_directories(header: &Header) -> Result<(), Damage>
     requires { HasCounts header.now }
-    ensures ok { OnOk result (directory_fault own header.now ≡ None) }
-    ensures damage { IfErr result (λ d. directory_fault own header.now ≡ Some d) }
+    ensures ok { OnOk result (directory_fault header.now.layout header.now ≡ None) }
+    ensures damage { IfErr result (λ d. directory_fault header.now.layout header.now ≡ Some d) }
 {
-    let mut end = HEADER_BYTES as u64;
+    let mut end = tables_start(header);
     for table in 1..=7 {
         match placed_end(header, table, end) {
             Some(next) => end = next,
@@ -66,13 +66,13 @@ fn placed_end(header: &Header, t: u8, before: u64) -> Option<u64>
     requires counts { HasCounts header.now }
     requires first { 1 ≤ t }
     requires last { t ≤ 7 }
-    requires before { before ≡ end_of own header.now (t - 1) }
-    ensures placed { OnSome result (is_placed own header.now t ≡ true) }
-    ensures end { IfSome result (λ end. end ≡ end_of own header.now t) }
-    ensures misplaced { IfNone result (is_placed own header.now t ≡ false) }
+    requires before { before ≡ end_of header.now.layout header.now (t - 1) }
+    ensures placed { OnSome result (is_placed header.now.layout header.now t ≡ true) }
+    ensures end { IfSome result (λ end. end ≡ end_of header.now.layout header.now t) }
+    ensures misplaced { IfNone result (is_placed header.now.layout header.now t ≡ false) }
 {
     let column = header.columns[t as usize - 1];
-    let length = ENTRY_BYTES as u64 * parks_of(column.count);
+    let length = directory_length(header.layout, column.count);
     if !is_within(before, column.directory, length, header.file_length) {
         return None;
     }
@@ -99,16 +99,32 @@ pub(crate) fn count_of(header: &Header, t: u8) -> u64
     header.columns[t as usize - 1].count
 }
 
-/// Where table t ends; table 1 begins at the end of "table 0", which is that of the header.
+/// Where table t ends; table 1 begins at the end of "table 0", which is that of the memo.
 pub(crate) fn end_of(header: &Header, t: u8) -> u64
     requires counts { HasCounts header.now }
     requires last { t ≤ 7 }
-    requires fits { end_of own header.now t < 2 ^ 64 }
-    ensures { result ≡ end_of own header.now t }
+    requires fits { end_of header.now.layout header.now t < 2 ^ 64 }
+    ensures { result ≡ end_of header.now.layout header.now t }
 {
     if t == 0 {
-        return HEADER_BYTES as u64;
+        return tables_start(header);
     }
     let column = header.columns[t as usize - 1];
-    column.directory + ENTRY_BYTES as u64 * parks_of(column.count)
+    column.directory + directory_length(header.layout, column.count)
+}
+
+/// Where the tables begin: at the end of the header and the memo.
+fn tables_start(header: &Header) -> u64
+    ensures { result ≡ end_of header.now.layout header.now 0 }
+{
+    HEADER_BYTES as u64 + u64::from(header.memo_length)
+}
+
+/// The length in bytes of the directory of so many numbers.
+fn directory_length(layout: Layout, count: u64) -> u64
+    requires { count ≤ 2 ^ 51 }
+    ensures length { result ≡ entry_bytes layout * parks_of layout count }
+    ensures small { result < 2 ^ 63 }
+{
+    layout.entry_bytes() as u64 * parks_of(layout, count)
 }

@@ -1,7 +1,9 @@
 //! From the bytes of a park to its numbers.
+ghost use Rattle.sha2.specs.Sha256.{sha256};
+ghost use Rattle.std.specs.Str.{bytes_eq};
 ghost use Rattle.std.specs.Prelude.{◌≡◌, ◌-◌, ◌+◌, ◌*◌, ◌^◌, ◌<◌, ◌≤◌, count_by, length, nat_lt, take, true, IfErr, OnOk, Ok, Err};
 ghost use Rattle.pos_layout.specs.Fields.{count_of};
-ghost use Rattle.pos_layout.specs.Layouts.{own};
+ghost use Rattle.pos_layout.specs.Layouts.{digest_of};
 ghost use Rattle.pos_layout.specs.Lists.{points_inside};
 ghost use Rattle.pos_lists.specs.Pairs.{greater};
 ghost use Rattle.pos_layout.specs.Reading.{is_listed, numbers_by};
@@ -10,7 +12,7 @@ ghost use Rattle.pos_reader.specs.Steps.{IsPark};
 ghost use Rattle.pos_rice.specs.Park.{AreNumbers};
 
 use crate::header::count_of;
-use pos_layout::{Damage, Header, ParkEntry, park_digest};
+use pos_layout::{Damage, Header, Layout, ParkEntry, park_digest};
 use pos_rice::{MOST_NUMBERS, decode_park};
 use pos_tuple::Size;
 
@@ -24,15 +26,15 @@ pub(crate) fn park_numbers(
     bytes: &[u8],
     numbers: &mut [u128],
 ) -> Result<(), Damage>
-    requires laid_out { IsLaidOut own header.now }
-    requires park { IsPark own header.now t park }
-    requires listed { is_listed own header.now t park entry.now ≡ true }
+    requires laid_out { IsLaidOut header.now.layout header.now }
+    requires park { IsPark header.now.layout header.now t park }
+    requires listed { is_listed header.now.layout header.now t park entry.now ≡ true }
     requires room { MOST_NUMBERS ≤ length numbers.old }
-    ensures ok { OnOk result (numbers_by own header.now t park entry.now bytes.now ≡ Ok (take entry.now.count numbers.new)) }
+    ensures ok { OnOk result (numbers_by header.now.layout header.now t park entry.now bytes.now ≡ Ok (take entry.now.count numbers.new)) }
     ensures numbers { OnOk result (AreNumbers header.now.size (take entry.now.count numbers.new)) }
-    ensures damage { IfErr result (λ d. numbers_by own header.now t park entry.now bytes.now ≡ Err d) }
+    ensures damage { IfErr result (λ d. numbers_by header.now.layout header.now t park entry.now bytes.now ≡ Err d) }
 {
-    if park_digest(bytes) != entry.digest {
+    if !is_digested(header.layout, entry, bytes) {
         return Err(Damage::Digest { table: t, park });
     }
     let Ok(()) = decode_park(header.size.k(), entry.count, bytes, numbers) else {
@@ -44,9 +46,16 @@ pub(crate) fn park_numbers(
     Ok(())
 }
 
+/// Whether the digest of these bytes is the one that the entry says.
+fn is_digested(layout: Layout, entry: &ParkEntry, bytes: &[u8]) -> bool
+    ensures { result ≡ bytes_eq (take (digest_of layout) (sha256 bytes.now)) entry.now.digest }
+{
+    park_digest(layout, bytes).bytes() == entry.digest.bytes()
+}
+
 /// Whether a number of table t points inside the table before.
 pub(crate) fn points_inside(header: &Header, t: u8, number: u128) -> bool
-    requires laid_out { IsLaidOut own header.now }
+    requires laid_out { IsLaidOut header.now.layout header.now }
     requires first { 1 ≤ t }
     requires last { t ≤ 7 }
     ensures { result ≡ points_inside header.now.size t (count_of header.now (t - 1)) number }

@@ -1,15 +1,16 @@
 -- The tests of an entry, one after another.
 use Rattle.std.proofs.Common.{◌≡◌, ◌==◌, ◌∙◌, ◌||◌, sym, arith}
 use Rattle.std.proofs.lemmas.Bool.{false≢true}
-use Rattle.pos_layout.specs.Layouts.{own, park_count}
+use Rattle.pos_layout.specs.Layouts.{park_count}
 use Rattle.pos_layout.specs.Fields.{column_of, count_of}
 use Rattle.pos_layout.specs.Reading.{is_listed}
+use Rattle.pos_layout.proofs.LayoutLemmas.{park_inside}
 use Rattle.pos_reader.proofs.EntryLemmas.{listed_by_head, listed_means, not_true, or_false, or_true}
 use Rattle.pos_reader.proofs.HeaderLemmas.{eq_false, eq_true}
 use Rattle.pos_reader.proofs.entry.is_listed.Goals as goal
 use Rattle.pos_reader.proofs.entry.is_listed.Goals.{After-park_count, Else-entry-park_count, then-length-eq0-via-then-length-eq0, then-length-eq0-via-else-length-eq0+then-length-longest_park}
 
-count_is : (c : After-park_count) → c.park_count.result ≡ park_count own (count_of c.args.header.now c.args.t) c.args.park
+count_is : (c : After-park_count) → c.park_count.result ≡ park_count c.args.header.now.layout (count_of c.args.header.now c.args.t) c.args.park
 count_is c = cc
 
 pub returns-then-length-eq0 : goal.returns-then-length-eq0
@@ -29,6 +30,12 @@ end_of-start-requires-clause-fits c =
     let fits = c.if-length-longest_park.element_fits.fits in
     omega arith
 
+pub park_count-requires : goal.park_count-requires
+park_count-requires c =
+    let inside = park_inside c.args.header.now.layout c.args.park (count_of c.args.header.now c.args.t) c.requires.park.there in
+    let count = c.count_of.ensures in
+    omega arith
+
 pub returns-then-not-is_within : goal.returns-then-not-is_within
 unfolding column_of
 returns-then-not-is_within c = sym (not_true _ (λ all.
@@ -42,7 +49,7 @@ returns-then-entry-park_count c = sym (not_true _ (λ all.
     c.if-entry-park_count.true (l.count ∙ sym (count_is (goal.at.returns-then-entry-park_count c).After-park_count))))
 
 -- all but the head was tested
-by_head : (c : Else-entry-park_count) → is_listed own c.args.header.now c.args.t c.args.park c.args.entry.now ≡ ((c.args.t == 7) || (c.args.entry.now.head == 0))
+by_head : (c : Else-entry-park_count) → is_listed c.args.header.now.layout c.args.header.now c.args.t c.args.park c.args.entry.now ≡ ((c.args.t == 7) || (c.args.entry.now.head == 0))
 unfolding column_of
 by_head c =
     let start = c.end_of-start.ensures in

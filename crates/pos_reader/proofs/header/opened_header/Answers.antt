@@ -1,7 +1,8 @@
 -- The tests of opening, in their order.
 use Rattle.std.proofs.Common.{◌≡◌, ◌∙◌, Some, sym, ap, subst, true}
 use Rattle.pos_layout.specs.declared.damage.Damage.TheVariants.{Length}
-use Rattle.pos_layout.specs.Layouts.{own}
+use Rattle.pos_layout.specs.Fields.{header_in, layout_in}
+use Rattle.pos_layout.proofs.LayoutLemmas.{header_layout}
 use Rattle.pos_layout.specs.Damages.{directory_fault, opening}
 use Rattle.pos_reader.specs.Steps.{HasCounts}
 use Rattle.pos_reader.proofs.HeaderLemmas.{is_gated, gated, short_gate, shut_gate, opening-gate, opening-header, opening-length, opening-rest, header_right}
@@ -34,11 +35,11 @@ pub test_directories-requires : goal.test_directories-requires
 test_directories-requires c = subst HasCounts (sym c.in-Ok.ensures.ok) (header_right c.args.bytes.now c.in-Ok.ensures.no_fault).counts
 
 -- opening finds what the test of the directories finds
-rest : (c : In-Ok) (said : c.in-Ok.header.file_length ≡ c.args.file_length) → opening own c.args.bytes.now c.args.file_length ≡ directory_fault own c.in-Ok.header
+rest : (c : In-Ok) (said : c.in-Ok.header.file_length ≡ c.args.file_length) → opening (layout_in c.args.bytes.now) c.args.bytes.now c.args.file_length ≡ directory_fault c.in-Ok.header.layout c.in-Ok.header
 rest c said =
     let same = c.in-Ok.ensures.ok in
     opening-rest c.args.bytes.now c.args.file_length (open_gate (goal.at.In-Ok c).Else-gate-ne-OPEN_GATE) c.in-Ok.ensures.no_fault (sym (ap (λ h. h.file_length) same) ∙ said)
-    ∙ ap (λ h. directory_fault own h) (sym same)
+    ∙ ap (λ l. directory_fault l (header_in c.args.bytes.now)) (sym (header_layout c.args.bytes.now)) ∙ ap (λ h. directory_fault h.layout h) (sym same)
 
 pub returns-in-Ok-test_directories-clause-no_damage :
     goal.returns-in-Ok-test_directories-clause-no_damage
