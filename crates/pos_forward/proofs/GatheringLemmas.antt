@@ -1,10 +1,10 @@
 -- Rows that are read one after another, and the refusals on the way.
-use Rattle.std.proofs.Common.{◌≡◌, ℕ, ◌+◌, ◌*◌, ◌/◌, ◌^◌, ◌≤◌, ◌<◌, cond, Bool, true, false, List, [], ◌∷◌, ◌++◌, length, map, take, drop, get_or, Result, Ok, Err, Some, refl, sym, ap, ◌∙◌, subst, inl, inr, arith, All, Any}
+use Rattle.std.proofs.Common.{◌≡◌, ℕ, ◌+◌, ◌-◌, ◌*◌, ◌/◌, ◌^◌, ◌≤◌, ◌<◌, cond, Bool, true, false, List, [], ◌∷◌, ◌++◌, length, map, take, drop, get_or, Result, Ok, Err, Some, refl, sym, ap, ◌∙◌, subst, inl, inr, arith, All, Any}
 use Rattle.std.specs.Prelude.{IsErrOf, IfErr, slice_get}
 use Rattle.std.proofs.Math.Nat.{div-le_self}
 use Rattle.std.proofs.lemmas.Bool.{cases_eq, ne_eqb, true≢false}
 use Rattle.std.proofs.lemmas.List.{get_or-map, get_or-take, get_or_push, length_push, length-map, map-append, take-append-drop, take-map, take_all}
-use Rattle.std.proofs.lemmas.List.Elements.{All-nil, All-push, All-weaker}
+use Rattle.std.proofs.lemmas.List.Elements.{All-get_or, All-nil, All-push, All-weaker}
 use Rattle.std.proofs.lemmas.Option.{get_or_from_slice_get}
 use Rattle.pos_edge.specs.Faults.{Rose, counted}
 use Rattle.pos_edge.specs.View.{View}
@@ -23,6 +23,8 @@ use Rattle.pos_forward.specs.declared.drafts.Draft.{Draft}
 use Rattle.pos_forward.specs.declared.faults.ForwardFault.{ForwardFault}
 use Rattle.pos_forward.specs.declared.faults.ForwardFault.TheVariants.{TableFull, Work}
 use Rattle.pos_forward.specs.declared.matcher.Matcher.{Matcher}
+use Rattle.pos_tuple.specs.Node.{IsEntry}
+use Rattle.pos_forward.specs.SevenTables.{IsOutOfOrder}
 use Rattle.pos_forward.specs.Tables.{AreUnsorted}
 use Rattle.pos_forward.specs.Matched.{IsMatched, IsOverfull}
 use Rattle.pos_forward.specs.Gathering.{HasMorePairs, HasSameRecords, IsEntryAt, IsGatherAnswer, IsGathered, IsGathering, IsMatchRefusal, IsReadRefusal, IsYDamage}
@@ -148,17 +150,35 @@ never_below k t entry read w s now i least m drafts a b e there g below at xs h 
       let last : e.y ≡ (entry row).y = ap (λ (z : Entry). z.y) same in
       omega arith
 
+-- the y that stands before a damage was read, and has the bits of a y
+order_at : {R : Type 0} (k n t : ℕ) (entry : R → Entry) (read : List Bool → R) (w : ℕ) (s now : ListPages) (i least : ℕ) (m : Matcher) (drafts : List Draft) (d : ScratchDamage) (a b : View)
+    → n ≡ k → IsGathering n t entry read w s now i least m drafts a b → IsYDamage k entry read w s i least d a → IsOutOfOrder k s.number (s.number + 1) d
+order_at k n t entry read w s now i least m drafts d a b size g damage = subst (IsOutOfOrder k s.number (s.number + 1)) (sym damage.is) (from (g.last (let h = damage.below in omega arith))) where
+  from : Any (λ x. x.y ≡ least) g.es → IsOutOfOrder k s.number (s.number + 1) (record { file = s.number; at = i; found = damage.e.y; least = least; limit = 2 ^ (k + 6) })
+  from (j, x, inside, is, y) =
+      let each : IsEntry n (t - 1) (get_or g.es j x) = All-get_or (IsEntry n (t - 1)) g.es j x inside g.matched.has.taken.entries in
+      let same : (get_or g.es j x).y ≡ least = ap (λ (z : Entry). z.y) is ∙ y in
+      record {
+        earliest = omega arith;
+        last = refl;
+        behind = let count = g.count in omega arith;
+        below = damage.below;
+        least = subst (λ z. least < 2 ^ (z + 6)) size (subst (λ z. z < 2 ^ (n + 6)) same each.y);
+        limit = refl;
+      }
+
 -- a row that was not read
 pub answer_read : {X Y R : Type 0} (r : Result Y ForwardFault) (y f : ForwardFault) (k n t cap : ℕ) (entry : R → Entry) (read : List Bool → R) (w : ℕ) (s now : ListPages) (i least : ℕ) (m : Matcher) (drafts : List Draft) (a b c : View)
-    → r ≡ Err y → y ≡ f → i < s.count → IsGathering n t entry read w s now i least m drafts a b → IsReadRefusal {X = X} (Err f) k entry read w now i least b c
+    → r ≡ Err y → y ≡ f → n ≡ k → i < s.count → IsGathering n t entry read w s now i least m drafts a b → IsReadRefusal {X = X} (Err f) k entry read w now i least b c
     → IsGatherAnswer r k t cap entry read w s a c
-answer_read {X} {Y} {R} r y f k n t cap entry read w s now i least m drafts a b c is same there g h = subst (λ (z : Result Y ForwardFault). IsGatherAnswer z k t cap entry read w s a c) (sym (is ∙ ap (λ x. Err x) same)) (record {
+answer_read {X} {Y} {R} r y f k n t cap entry read w s now i least m drafts a b c is same size there g h = subst (λ (z : Result Y ForwardFault). IsGatherAnswer z k t cap entry read w s a c) (sym (is ∙ ap (λ x. Err x) same)) (record {
   failed = λ p. Rose-since a.faults b.faults c.faults g.read_only.only.kept.faults (h.failed (turned X Y f (Work DiskFailed) p));
   quiet = λ other. h.quiet other ∙ g.quiet;
   no_exists = λ file p. h.no_exists file (turned X Y f (Work (Exists file)) p);
   table = λ table p. absurd (h.not_full table (turned X Y f (TableFull table) p));
   full = λ table p. absurd (h.not_full table (turned X Y f (TableFull table) p));
   damage = λ d p. (i, least, before d (h.damage d (turned X Y f (Work (Scratch d)) p)));
+  range = λ d p. order_at k n t entry read w s now i least m drafts d a b size g (before d (h.damage d (turned X Y f (Work (Scratch d)) p)));
   never = λ d p. let y_damage = before d (h.damage d (turned X Y f (Work (Scratch d)) p)) in never_below n t entry read w s now i least m drafts a b y_damage.e there g y_damage.below y_damage.same;
 }) where
   before : (d : ScratchDamage) → IsYDamage k entry read w now i least d b → IsYDamage k entry read w s i least d a
@@ -180,6 +200,7 @@ match_answer {X} {Y} {R} f k n t cap entry read w s now i least m drafts a b c g
   table = λ table p. is_table table refusal p;
   full = λ table p xs holds tells. pairs xs holds tells (overfull (full_of table refusal p) g.es g.matched);
   damage = λ d p. absurd (not_work (Scratch d) refusal p (λ e. true≢false (let z : true ≡ false = cc in z)));
+  range = λ d p. absurd (not_work (Scratch d) refusal p (λ e. true≢false (let z : true ≡ false = cc in z)));
   never = λ d p. absurd (not_work (Scratch d) refusal p (λ e. true≢false (let z : true ≡ false = cc in z)));
 } where
   not_work : (e : WorkFault) → IsMatchRefusal t f → IsErrOf {T = Y} (Err f) (Work e) → (e ≡ Memory → ⊥) → ⊥
@@ -218,6 +239,7 @@ answer_last {Y} (Ok x) k n t cap entry read w s now i least m drafts a b g refus
   table = λ table p. absurd (not_err (TableFull table) p);
   full = λ table p. absurd (not_err (TableFull table) p);
   damage = λ d p. absurd (not_err (Work (Scratch d)) p);
+  range = λ d p. absurd (not_err (Work (Scratch d)) p);
   never = λ d p. absurd (not_err (Work (Scratch d)) p);
 } where
   not_err : (e : ForwardFault) → IsErrOf {T = Y} (Ok x) e → ⊥

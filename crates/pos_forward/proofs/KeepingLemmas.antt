@@ -1,5 +1,5 @@
 -- Drafts that are kept as short ones or whole: one more, and another order.
-use Rattle.std.proofs.Common.{◌≡◌, ℕ, ◌+◌, ◌≤◌, ◌<◌, List, [], ◌∷◌, ◌++◌, length, map, take, get_or, add-one, arith, refl, sym, ap, subst, ◌∙◌}
+use Rattle.std.proofs.Common.{◌≡◌, ℕ, ◌+◌, ◌/◌, ◌^◌, ◌≤◌, ◌<◌, List, [], ◌∷◌, ◌++◌, length, map, take, get_or, add-one, arith, refl, sym, ap, subst, ◌∙◌}
 use Rattle.std.specs.List.Sorted.{IsPermutation, IsNonDecreasingBy}
 use Rattle.std.proofs.Math.Seq.{take-suc}
 use Rattle.std.proofs.lemmas.List.{append_assoc, length-map, get_or-map, map-append}
@@ -9,7 +9,7 @@ use Rattle.pos_forward.specs.declared.drafts.ShortDraft.{ShortDraft}
 use Rattle.pos_forward.specs.Keeping.{kept_drafts, whole_draft}
 
 no_short : ShortDraft
-no_short = record { low = 0; y = 0; left = 0; right = 0 }
+no_short = record { low = 0; key = 0 }
 
 -- one more of the short drafts stands behind others as a whole one
 pub whole-more : (old now : List Draft) (rows : List ShortDraft) (i : ℕ) (d : ShortDraft) → i < length rows → now ≡ old ++ map whole_draft (take i rows)
@@ -26,16 +26,20 @@ pub short-permutation : (old new : List ShortDraft) (whole : List Draft) → len
 short-permutation old new [] none perm = IsPermutation-map whole_draft old new perm
 short-permutation old new (d ∷ ds) none perm = absurd (omega arith)
 
-whole-rise : (rows : List ShortDraft) → IsNonDecreasingBy (λ (s : ShortDraft). s.y) rows
+-- the upper half of a key orders as y does
+y-rise : (m n : ℕ) → m / 2 ^ 64 ≤ n / 2 ^ 64 → m / 2 ^ 66 ≤ n / 2 ^ 66
+y-rise m n h = omega arith
+
+whole-rise : (rows : List ShortDraft) → IsNonDecreasingBy (λ (s : ShortDraft). s.key / 2 ^ 64) rows
     → IsNonDecreasingBy (λ (d : Draft). d.y) (map whole_draft rows)
 whole-rise rows rise i j d le lt =
     let in_j : j < length rows = omega (arith, length-map rows whole_draft) in
     let at_i : get_or (map whole_draft rows) i d ≡ whole_draft (get_or rows i no_short) = get_or-map whole_draft rows i no_short d (omega arith) in
     let at_j : get_or (map whole_draft rows) j d ≡ whole_draft (get_or rows j no_short) = get_or-map whole_draft rows j no_short d in_j in
     subst (λ (a : Draft). a.y ≤ (get_or (map whole_draft rows) j d).y) (sym at_i)
-    (subst (λ (b : Draft). (get_or rows i no_short).y ≤ b.y) (sym at_j) (rise i j no_short le in_j))
+    (subst (λ (b : Draft). (get_or rows i no_short).key / 2 ^ 66 ≤ b.y) (sym at_j) (y-rise (get_or rows i no_short).key (get_or rows j no_short).key (rise i j no_short le in_j)))
 
-pub short-rise : (rows : List ShortDraft) (whole : List Draft) → length whole ≡ 0 → IsNonDecreasingBy (λ (s : ShortDraft). s.y) rows
+pub short-rise : (rows : List ShortDraft) (whole : List Draft) → length whole ≡ 0 → IsNonDecreasingBy (λ (s : ShortDraft). s.key / 2 ^ 64) rows
     → IsNonDecreasingBy (λ (d : Draft). d.y) (kept_drafts rows whole)
 short-rise rows [] none rise = whole-rise rows rise
 short-rise rows (d ∷ ds) none rise = absurd (omega arith)

@@ -12,7 +12,8 @@ mod StoreLemmas
 mod WorkLemmas
 mod WayLemmas
 mod GatheringLemmas
-mod NextLemmas
-mod SoFarLemmas
+mod MadeTables
 mod OneLemmas
+mod SoFarLemmas
+mod NextLemmas
 mod SevenLemmas

@@ -1,47 +1,42 @@
 -- One table made of the one below: rows are read, given up, and two lists are made.
-use Rattle.std.proofs.Common.{◌≡◌, ℕ, ◌+◌, ◌-◌, ◌*◌, ◌/◌, ◌^◌, ◌≤◌, ◌<◌, min, Bool, true, false, List, length, map, Result, Ok, Err, Option, refl, sym, ap, ◌∙◌, subst, inl, inr, arith, All}
-use Rattle.std.specs.Prelude.{IsErrOf, IsSome}
+use Rattle.std.proofs.Common.{◌≡◌, ◌⊎◌, ℕ, ◌+◌, ◌-◌, ◌*◌, ◌/◌, ◌^◌, ◌≤◌, ◌<◌, min, Bool, true, false, List, length, map, Err, refl, sym, ap, ◌∙◌, subst, inl, inr, arith, All}
+use Rattle.std.specs.Prelude.{IsErrOf}
+use Rattle.std.specs.List.Sorted.{IsPermutation}
 use Rattle.std.proofs.Math.Nat.{pow-le-pow_right}
 use Rattle.std.proofs.lemmas.Bool.{cases_eq, true≢false, false≢true}
-use Rattle.pos_edge.specs.declared.scratch.ScratchDamage.{ScratchDamage}
+use Rattle.std.proofs.lemmas.List.Sorted.{length_permutation}
+use Rattle.std.proofs.lemmas.List.Elements.{All-weaker}
 use Rattle.pos_edge.specs.Faults.{Rose}
 use Rattle.pos_edge.specs.View.{View, IsDisk}
 use Rattle.pos_edge.specs.Frame.{NameOf, Nothing, Just, ReadsOnly, SameFaults}
-use Rattle.pos_edge.specs.Calls.{IsThere, WasThere}
-use Rattle.pos_edge.specs.ScratchNames.{ScratchState, scratch_name, with_file, without_file, IsLeft}
-use Rattle.pos_edge.specs.ScratchWork.{IsNameBetween, IsScratchWork, IsScratchDone}
-use Rattle.pos_edge.specs.declared.scratch.ScratchDamage.{ScratchDamage}
+use Rattle.pos_edge.specs.Calls.{IsThere}
+use Rattle.pos_edge.specs.ScratchNames.{ScratchState, with_file, without_file, IsLeft}
+use Rattle.pos_edge.specs.ScratchWork.{IsNameBetween, IsScratchWork, IsScratchDone, HasWorked}
 use Rattle.pos_edge.specs.declared.scratch.WorkFault.{WorkFault}
-use Rattle.pos_edge.specs.declared.scratch.WorkFault.TheVariants.{DiskFailed, Exists, Scratch}
+use Rattle.pos_edge.specs.declared.scratch.WorkFault.TheVariants.{DiskFailed, Exists}
 use Rattle.pos_edge.proofs.FaultLemmas.{Rose-since}
-use Rattle.pos_edge.proofs.Frames.{frame_wider}
-use Rattle.pos_edge.proofs.ScratchFiles.{same_number, scratch_name-same}
-use Rattle.pos_edge.proofs.ScratchWorkLemmas.{between_wider, done_beside, done_then, work_beside, work_then, work_wider}
+use Rattle.pos_edge.proofs.ScratchWorkLemmas.{between_wider, done_beside, done_then, ended_behind, work_read, work_then, worked_behind}
 use Rattle.pos_tuple.specs.declared.entry.Entry.{Entry}
+use Rattle.pos_tuple.specs.Node.{metadata_units}
+use Rattle.pos_record.specs.Kinds.{pair_read, pair_width, PairFits}
 use Rattle.pos_runs.specs.Pages.{ListPages}
 use Rattle.pos_runs.specs.Lists.{IsListRead, ListKept}
 use Rattle.pos_runs.proofs.KeptLemmas.{kept-read}
-use Rattle.std.specs.List.Sorted.{IsPermutation}
-use Rattle.std.proofs.lemmas.List.Sorted.{length_permutation}
-use Rattle.std.proofs.lemmas.List.Elements.{All-weaker}
-use Rattle.pos_tuple.specs.Node.{metadata_units}
-use Rattle.pos_record.specs.Kinds.{pair_read, pair_width, PairFits}
 use Rattle.pos_forward.specs.declared.drafts.Draft.{Draft}
 use Rattle.pos_forward.specs.declared.faults.ForwardFault.{ForwardFault}
-use Rattle.pos_forward.specs.declared.faults.ForwardFault.TheVariants.{TableFull, Work}
+use Rattle.pos_forward.specs.declared.faults.ForwardFault.TheVariants.{Work}
 use Rattle.pos_forward.specs.Drafts.{IsPairDraft}
-use Rattle.pos_forward.specs.Tables.{AreUnsorted, IsSortedTable}
-use Rattle.pos_forward.specs.Stored.{draft_pair_record}
-use Rattle.pos_forward.specs.Storing.{AreKept, AreStored, AreTwoFiles, IsWorkAnswer}
-use Rattle.pos_forward.specs.Gathering.{IsGatherAnswer, IsGathered}
-use Rattle.pos_forward.specs.NextTables.{AreDrafted, IsLastList, IsNextAnswer, IsNextMade}
 use Rattle.pos_forward.specs.Eights.{CountsEights}
+use Rattle.pos_forward.specs.Gathering.{IsGatherAnswer, IsGathered}
+use Rattle.pos_forward.specs.NextTables.{AreDrafted, HasGivenRows, IsLastList}
+use Rattle.pos_forward.proofs.MadeTables.{IsNextMade}
+use Rattle.pos_forward.specs.Stored.{draft_pair_record}
+use Rattle.pos_forward.specs.Storing.{AreKept, AreStored, IsWorkAnswer}
+use Rattle.pos_forward.specs.Tables.{AreUnsorted, IsSortedTable}
+use Rattle.pos_forward.specs.TablesSoFar.{AreEntriesOf, IsMoreFault}
+use Rattle.pos_forward.proofs.OneLemmas.{stored_ended}
+use Rattle.pos_forward.proofs.SoFarLemmas.{gathered_cause, stored_cause}
 use Rattle.pos_forward.proofs.WayLemmas.{kept_name}
-
--- the rows were read alone
-pub next_read : (s : ScratchState) (low high : ℕ) (file : ℕ) (a b : View) → ReadsOnly a b → IsScratchWork (IsNameBetween s.base low high) (Just file) s s a b
-next_read s low high file a b only = work_beside (IsNameBetween s.base low high) (Just file) s a b
-    (frame_wider (IsNameBetween s.base low high) Nothing (Just file) Nothing a b (λ n x. absurd x) (λ f l x. absurd x) only.kept) only.ids
 
 -- the names of the rows' file
 row_name : {R : Type 0} (read : List Bool → R) (w : ℕ) (s : ScratchState) (rows : ListPages) (xs : List R) (file : ℕ) (a b : View) → IsDisk b → IsLastList s rows a → ListKept s.base read w rows xs a → ReadsOnly a b → file ≡ rows.file
@@ -61,152 +56,86 @@ pub row_there : {R : Type 0} (base : List ℕ) (read : List Bool → R) (w : ℕ
 row_there base read w rows now xs a b kept got = subst (λ f. IsThere f b) (sym got.same.file) (kept-read base read w rows xs a b got.only kept).stands.there
 
 -- and then removed, whatever was answered
-pub next_given : {R : Type 0} (read : List Bool → R) (w : ℕ) (s t : ScratchState) (rows : ListPages) (xs : List R) (file : ℕ) (a b c : View) → IsDisk b → IsLastList s rows a → ListKept s.base read w rows xs a → ReadsOnly a b
-    → file ≡ rows.file → t ≡ without_file s file → IsScratchWork (NameOf file b) (Just file) s t b c → IsScratchWork (IsNameBetween s.base rows.number s.made) (Just rows.file) s t a c
-next_given read w s t rows xs file a b c disk list kept only same is work =
+given_work : {R : Type 0} (read : List Bool → R) (w : ℕ) (s t : ScratchState) (rows : ListPages) (xs : List R) (file : ℕ) (a b c : View) → IsDisk b → IsLastList s rows a → ListKept s.base read w rows xs a → ReadsOnly a b
+    → file ≡ rows.file → t ≡ without_file s file → IsScratchWork (NameOf file b) (Just file) s t b c → IsScratchWork (IsNameBetween s.base rows.number (t.made + 1)) (Just rows.file) s t a c
+given_work read w s t rows xs file a b c disk list kept only same is work =
     let made : t.made ≡ s.made = ap (λ (z : ScratchState). z.made) is in
-    work_then (IsNameBetween s.base rows.number s.made) (IsNameBetween s.base rows.number s.made) (NameOf file b) (Just rows.file) Nothing (Just file) s s t a b c
-    (λ n x. x) (row_name read w s rows xs file a b disk list kept only same) (λ f l x. absurd x) (λ f l x. x ∙ same) (λ f l x. absurd x) (omega arith)
-    (work_beside (IsNameBetween s.base rows.number s.made) Nothing s a b (frame_wider (IsNameBetween s.base rows.number s.made) Nothing Nothing Nothing a b (λ n x. absurd x) (λ f l x. x) only.kept) only.ids)
-    work
+    work_then (IsNameBetween s.base rows.number (t.made + 1)) Nothing (NameOf file b) (Just rows.file) Nothing (Just file) s s t a b c
+    (λ n x. absurd x) (λ n x. between_wider s.base rows.number s.made rows.number (t.made + 1) n (omega arith) (omega arith) (row_name read w s rows xs file a b disk list kept only same n x)) (λ f l x. absurd x) (λ f l x. x ∙ same) (λ f l x. absurd x) (omega arith)
+    (work_read Nothing Nothing s a b only) work
 
 -- and where that went well
-pub next_gone : {R : Type 0} (read : List Bool → R) (w : ℕ) (s t : ScratchState) (rows : ListPages) (xs : List R) (file : ℕ) (a b c : View) → IsDisk b → IsLastList s rows a → ListKept s.base read w rows xs a → ReadsOnly a b
-    → file ≡ rows.file → t ≡ without_file s file → IsScratchDone (NameOf file b) (Just file) s t b c → IsScratchDone (IsNameBetween s.base rows.number s.made) (Just rows.file) s t a c
-next_gone read w s t rows xs file a b c disk list kept only same is done =
+pub given_worked : {R : Type 0} (read : List Bool → R) (w : ℕ) (s t : ScratchState) (rows : ListPages) (xs : List R) (file : ℕ) (a b c : View) → IsDisk b → IsLastList s rows a → ListKept s.base read w rows xs a → ReadsOnly a b
+    → file ≡ rows.file → t ≡ without_file s file → IsScratchWork (NameOf file b) (Just file) s t b c → IsScratchDone (NameOf file b) (Just file) s t b c → SameFaults a c → HasWorked 0 rows.number (Just rows.file) s t a c
+given_worked read w s t rows xs file a b c disk list kept only same is work done quiet =
     let made : t.made ≡ s.made = ap (λ (z : ScratchState). z.made) is in
-    done_then (IsNameBetween s.base rows.number s.made) Nothing (NameOf file b) (Just rows.file) Nothing (Just file) s s t a b c
-    (λ n x. absurd x) (row_name read w s rows xs file a b disk list kept only same) (λ f l x. absurd x) (λ f l x. x ∙ same) refl (λ m from to x. x)
-    (done_beside Nothing Nothing s a b only.kept (λ n x none. x)) done
+    record {
+      work = given_work read w s t rows xs file a b c disk list kept only same is work;
+      done = done_then (IsNameBetween s.base rows.number t.made) Nothing (NameOf file b) (Just rows.file) Nothing (Just file) s s t a b c
+          (λ n x. absurd x) (λ n x. between_wider s.base rows.number s.made rows.number t.made n (omega arith) (omega arith) (row_name read w s rows xs file a b disk list kept only same n x)) (λ f l x. absurd x) (λ f l x. x ∙ same) refl (λ m from to x. x)
+          (done_beside Nothing Nothing s a b only.kept (λ n x none. x)) done;
+      made = omega arith;
+      quiet = quiet;
+    }
 
--- the same frame as after the lists were made
-pub given_wider : (s u : ScratchState) (rows : ListPages) (a b : View) → IsScratchWork (IsNameBetween s.base rows.number s.made) (Just rows.file) s u a b → IsScratchWork (IsNameBetween s.base rows.number (u.made + 1)) (Just rows.file) s u a b
-given_wider s u rows a b work =
-    let more = work.more in
-    work_wider (IsNameBetween s.base rows.number (u.made + 1)) (IsNameBetween s.base rows.number s.made) (Just rows.file) (Just rows.file) s u a b
-    (λ n x. between_wider s.base rows.number s.made rows.number (u.made + 1) n (omega arith) (omega arith) x) (λ f l x. x) work
-
--- and then two lists were made, or not
-pub next_work : (s t u : ScratchState) (rows : ListPages) (a c d : View) → IsLastList s rows a → t ≡ without_file s rows.file
-    → IsScratchWork (IsNameBetween s.base rows.number s.made) (Just rows.file) s t a c → IsScratchWork (IsNameBetween t.base t.made (u.made + 1)) Nothing t u c d
-    → IsScratchWork (IsNameBetween s.base rows.number (u.made + 1)) (Just rows.file) s u a d
-next_work s t u rows a c d list is first second =
-    let made : t.made ≡ s.made = ap (λ (z : ScratchState). z.made) is in
-    let base : t.base ≡ s.base = ap (λ (z : ScratchState). z.base) is in
-    let last = list.last in
-    let more = second.more in
-    let few = second.most in
-    work_then (IsNameBetween s.base rows.number (u.made + 1)) (IsNameBetween s.base rows.number s.made) (IsNameBetween t.base t.made (u.made + 1)) (Just rows.file) (Just rows.file) Nothing s t u a c d
-    (λ n x. between_wider s.base rows.number s.made rows.number (u.made + 1) n (omega arith) (omega arith) x)
-    (λ n x. between_wider s.base t.made (u.made + 1) rows.number (u.made + 1) n (omega arith) (omega arith) (subst (λ b. IsNameBetween b t.made (u.made + 1) n) base x))
-    (λ f l x. x) (λ f l x. absurd x) (λ f l x. inl (subst (IsLeft s) (sym x) list.left)) (omega arith) first second
-
-pub next_done : (s t u : ScratchState) (rows : ListPages) (a c d : View) → IsLastList s rows a → t ≡ without_file s rows.file → t.made ≤ u.made → u.made ≤ 10000
-    → IsScratchDone (IsNameBetween s.base rows.number s.made) (Just rows.file) s t a c → IsScratchDone (IsNameBetween t.base t.made u.made) Nothing t u c d
-    → IsScratchDone (IsNameBetween s.base rows.number u.made) (Just rows.file) s u a d
-next_done s t u rows a c d list is more few first second =
-    let made : t.made ≡ s.made = ap (λ (z : ScratchState). z.made) is in
-    let base : t.base ≡ s.base = ap (λ (z : ScratchState). z.base) is in
-    let last = list.last in
-    done_then (IsNameBetween s.base rows.number u.made) (IsNameBetween s.base rows.number s.made) (IsNameBetween t.base t.made u.made) (Just rows.file) (Just rows.file) Nothing s t u a c d
-    (λ n x. between_wider s.base rows.number s.made rows.number u.made n (omega arith) (omega arith) x)
-    (λ n x. between_wider s.base t.made u.made rows.number u.made n (omega arith) (omega arith) (subst (λ b. IsNameBetween b t.made u.made n) base x))
-    (λ f l x. x) (λ f l x. absurd x) base
-    (λ m from to (k, low, high, same). let e : k ≡ m = same_number s.base u.made k m few (omega arith) to (sym same) in omega arith) first second
-
--- so many files were made
-pub few_made : (s t u : ScratchState) (rows first second : ListPages) (c : View) → s.made + 2 ≤ 10000 → t ≡ without_file s rows.file → AreTwoFiles t u first second c → u.made ≤ 10000
-few_made s t u rows first second c few is files =
-    let made : t.made ≡ s.made = ap (λ (z : ScratchState). z.made) is in
-    let two : u.made ≡ t.made + 1 + 1 = ap (λ (z : ScratchState). z.made) files.is in
-    omega arith
-
--- ---- answers
-
-turned : (X Y : Type 0) (e f : ForwardFault) → IsErrOf {T = Y} (Err e) f → IsErrOf {T = X} (Err e) f
-turned X Y e f is = let same : e ≡ f = cc in ap (λ x. Err x) same
+-- ---- faults
 
 -- the rows could not be gathered
-pub answer_gathered : {X Y R : Type 0} (r : Result Y ForwardFault) (y f : ForwardFault) (k t most : ℕ) (entry : R → Entry) (read : List Bool → R) (w : ℕ) (rows : ListPages) (s : ScratchState) (a b : View)
-    → r ≡ Err y → y ≡ f → IsGatherAnswer {X = X} (Err f) k t most entry read w rows a b → IsNextAnswer r k t most entry read w rows s s a b
-answer_gathered {X} {Y} {R} r y f k t most entry read w rows s a b is same h = subst (λ (z : Result Y ForwardFault). IsNextAnswer z k t most entry read w rows s s a b) (sym (is ∙ ap (λ x. Err x) same)) (record {
-  failed = λ p. h.failed (turned X Y f (Work DiskFailed) p);
-  quiet = h.quiet;
-  exists = λ file p. absurd (h.no_exists file (turned X Y f (Work (Exists file)) p));
-  table = λ table p. h.table table (turned X Y f (TableFull table) p);
-  full = λ table p. h.full table (turned X Y f (TableFull table) p);
-  never = λ d p. h.never d (turned X Y f (Work (Scratch d)) p);
-  range = λ d p. let y = (h.damage d (turned X Y f (Work (Scratch d)) p)).2 in subst (λ (z : ScratchDamage). z.found < z.least) (sym y.is) y.below;
-})
+as_gathered : (X : Type 0) (e f : ForwardFault) → IsErrOf {T = Unit {0}} (Err e) f → IsErrOf {T = X} (Err e) f
+as_gathered X e f is = let same : e ≡ f = cc in ap (λ x. Err x) same
 
-work_of : (X Y : Type 0) (e f : WorkFault) → IsErrOf {T = Y} (Err (Work e)) (Work f) → IsErrOf {T = X} (Err e) f
-work_of X Y e f is = let same : e ≡ f = cc in ap (λ x. Err x) same
-
--- the rows could not be removed, or the lists not be made, where the faults were as before
-pub answer_work : {X Y R : Type 0} (e : WorkFault) (k t most : ℕ) (entry : R → Entry) (read : List Bool → R) (w : ℕ) (rows : ListPages) (s v u : ScratchState) (a b c : View)
-    → v ≡ without_file s rows.file → s.made + 2 ≤ 10000 → IsScratchWork (IsNameBetween v.base v.made (u.made + 1)) Nothing v u b c → SameFaults a b → IsScratchDone (IsNameBetween s.base rows.number s.made) (Just rows.file) s v a b → IsWorkAnswer {X = X} (Err e) v u b c
-    → IsNextAnswer {X = Y} (Err (Work e)) k t most entry read w rows s u a c
-answer_work {X} {Y} {R} e k t most entry read w rows s v u a b c is few work quiet done h =
-    let made : v.made ≡ s.made = ap (λ (z : ScratchState). z.made) is in
-    let more = work.more in
-    let most_made = work.most in
-    let small : u.made < 2 ^ 64 = omega arith in
-    let later : s.made ≤ u.made = omega arith in
-    let base : v.base ≡ s.base = ap (λ (z : ScratchState). z.base) is in
-    record {
-      failed = λ p. Rose-since a.faults b.faults c.faults done.kept.faults (h.failed (work_of X Y e DiskFailed p));
-      quiet = λ other. h.quiet (λ is. other (ap (λ x. Work x) is)) ∙ quiet;
-      exists = λ file p.
-          let x = h.exists file (work_of X Y e (Exists file) p) in
-          let number : file ≡ u.made = x.0 in
-          (number, earlier file (subst (λ n. n < 2 ^ 64) (sym number) small) (subst (λ n. s.made ≤ n) (sym number) later) (subst (λ b2. WasThere (scratch_name b2 file) b) base x.1));
-      table = λ table p. absurd (true≢false (let z : true ≡ false = cc in z));
-      full = λ table p. absurd (true≢false (let z : true ≡ false = cc in z));
-      never = λ d p. absurd (h.no_damage d (work_of X Y e (Scratch d) p));
-      range = λ d p. absurd (h.no_damage d (work_of X Y e (Scratch d) p));
-    } where
-      earlier : (m : ℕ) → m < 2 ^ 64 → s.made ≤ m → WasThere (scratch_name s.base m) b → WasThere (scratch_name s.base m) a
-      earlier m small later there tells =
-          let same : b.contents (scratch_name s.base m) ≡ a.contents (scratch_name s.base m) = done.kept.contents (scratch_name s.base m) (λ (n, low, high, name). let e : m ≡ n = scratch_name-same s.base m n small (omega arith) name in omega arith) in
-          subst (λ (x : Option (List ℕ)). IsSome x) same (there (done.kept.tells ∙ tells))
+pub gathered_fault : {X R : Type 0} (f : ForwardFault) (k c n t : ℕ) (entry : R → Entry) (read : List Bool → R) (w : ℕ) (rows : ListPages) (s : ScratchState) (a b : View)
+    → n + 2 ≡ t → n < 6 → rows.number + 1 ≡ s.made → ReadsOnly a b → IsGatherAnswer {X = X} (Err f) k t c entry read w rows a b → IsMoreFault k c n 2 (AreEntriesOf entry) read w rows s s a b f
+gathered_fault {X} f k c n t entry read w rows s a b level less last only h = record {
+  ended = record {
+    work = work_read (IsNameBetween s.base rows.number (s.made + 1)) (Just rows.file) s a b only;
+    few = omega arith;
+    exists = λ file p. absurd (h.no_exists file (as_gathered X f (Work (Exists file)) p));
+    failed = λ p. h.failed (as_gathered X f (Work DiskFailed) p);
+    quiet = h.quiet;
+  };
+  cause = gathered_cause f k c n t entry read w rows s a b level less last h;
+}
 
 -- the rows could not be removed
-pub answer_failed : {Y R : Type 0} (e : WorkFault) (k t most : ℕ) (entry : R → Entry) (read : List Bool → R) (w : ℕ) (rows : ListPages) (s u : ScratchState) (a b c : View)
-    → a.faults ≤ b.faults → Rose b.faults c.faults → e ≡ DiskFailed → IsNextAnswer {X = Y} (Err (Work e)) k t most entry read w rows s u a c
-answer_failed {Y} {R} e k t most entry read w rows s u a b c risen rose is = record {
-  failed = λ p. Rose-since a.faults b.faults c.faults risen rose;
-  quiet = λ other. absurd (other (ap (λ x. Work x) is));
-  exists = λ file p. absurd (true≢false (let z : true ≡ false = cc in z));
-  table = λ table p. absurd (true≢false (let z : true ≡ false = cc in z));
-  full = λ table p. absurd (true≢false (let z : true ≡ false = cc in z));
-  never = λ d p. absurd (true≢false (let z : true ≡ false = cc in z));
-  range = λ d p. absurd (true≢false (let z : true ≡ false = cc in z));
-}
+pub removed_fault : {R : Type 0} (e : WorkFault) (k c n : ℕ) (entry : R → Entry) (read : List Bool → R) (w : ℕ) (s u : ScratchState) (rows : ListPages) (xs : List R) (file : ℕ) (a b d : View)
+    → e ≡ DiskFailed → Rose b.faults d.faults → IsDisk b → IsLastList s rows a → ListKept s.base read w rows xs a → ReadsOnly a b → file ≡ rows.file → u ≡ without_file s file → IsScratchWork (NameOf file b) (Just file) s u b d
+    → IsMoreFault k c n 2 (AreEntriesOf entry) read w rows s u a d (Work e)
+removed_fault e k c n entry read w s u rows xs file a b d is rose disk list kept only same left work =
+    let made : u.made ≡ s.made = ap (λ (z : ScratchState). z.made) left in
+    subst (λ z. IsMoreFault k c n 2 (AreEntriesOf entry) read w rows s u a d (Work z)) (sym is) (record {
+      ended = record {
+        work = given_work read w s u rows xs file a b d disk list kept only same left work;
+        few = omega arith;
+        exists = λ number p. absurd (true≢false (let z : true ≡ false = cc in z));
+        failed = λ p. Rose-since a.faults b.faults d.faults only.kept.faults rose;
+        quiet = λ other. absurd (other refl);
+      };
+      cause = tt;
+    })
 
--- all went well
-pub answer_done : {Y R : Type 0} (x : Y) (k t most : ℕ) (entry : R → Entry) (read : List Bool → R) (w : ℕ) (rows : ListPages) (s u : ScratchState) (a c : View) → SameFaults a c → IsNextAnswer {X = Y} (Ok x) k t most entry read w rows s u a c
-answer_done {Y} {R} x k t most entry read w rows s u a c quiet = record {
-  failed = λ p. absurd (true≢false (let z : true ≡ false = cc in z));
-  quiet = quiet;
-  exists = λ file p. absurd (true≢false (let z : true ≡ false = cc in z));
-  table = λ table p. absurd (true≢false (let z : true ≡ false = cc in z));
-  full = λ table p. absurd (true≢false (let z : true ≡ false = cc in z));
-  never = λ d p. absurd (true≢false (let z : true ≡ false = cc in z));
-  range = λ d p. absurd (true≢false (let z : true ≡ false = cc in z));
-}
+number_same : (s v : ScratchState) (file : ℕ) → v ≡ without_file s file → v.made ≡ s.made
+number_same s v file is = ap (λ (z : ScratchState). z.made) is
 
--- the refusal to make the drafts, handed on
-pub answer_turned : {X Y R : Type 0} (r : Result Y ForwardFault) (y f : ForwardFault) (k t most : ℕ) (entry : R → Entry) (read : List Bool → R) (w : ℕ) (rows : ListPages) (s u : ScratchState) (a b : View)
-    → r ≡ Err y → y ≡ f → IsNextAnswer {X = X} (Err f) k t most entry read w rows s u a b → IsNextAnswer r k t most entry read w rows s u a b
-answer_turned {X} {Y} {R} r y f k t most entry read w rows s u a b is same h = subst (λ (z : Result Y ForwardFault). IsNextAnswer z k t most entry read w rows s u a b) (sym (is ∙ ap (λ x. Err x) same)) (record {
-  failed = λ p. h.failed (turned X Y f (Work DiskFailed) p);
-  quiet = h.quiet;
-  exists = λ file p. h.exists file (turned X Y f (Work (Exists file)) p);
-  table = λ table p. h.table table (turned X Y f (TableFull table) p);
-  full = λ table p. h.full table (turned X Y f (TableFull table) p);
-  never = λ d p. h.never d (turned X Y f (Work (Scratch d)) p);
-  range = λ d p. h.range d (turned X Y f (Work (Scratch d)) p);
-})
+-- the module's arguments: the rows were given up, and then two lists were to be made
+module _ (s v u : ScratchState) (rows : ListPages) (a b d : View) (list : IsLastList s rows a) (given : HasGivenRows s v rows a b) (room : s.made + 2 ≤ 10000) where
+  list_above : rows.number ≤ v.made
+  list_above = let last = list.last in let same = number_same s v rows.file given.left in omega arith
+
+  abbrev old_rows : (f : ℕ) → a.is_live f ≡ true → f ≡ rows.file → IsLeft s f ⊎ (b.is_live f ≡ true)
+  old_rows f live is = inl (subst (IsLeft s) (sym is) list.left)
+
+  -- they were made
+  pub next_worked : HasWorked 2 v.made Nothing v u b d → HasWorked 2 rows.number (Just rows.file) s u a d
+  next_worked q = worked_behind 0 2 rows.number v.made (Just rows.file) Nothing s v u a b d list_above (omega arith) room (λ f live x. absurd x) old_rows given.worked q
+
+  -- or not
+  pub stored_fault : {X R : Type 0} (e : WorkFault) (k c n : ℕ) (tie : List Entry → List R → Type 0) (read : List Bool → R) (w : ℕ) → IsScratchWork (IsNameBetween v.base v.made (u.made + 1)) Nothing v u b d → u.made ≤ v.made + 2
+      → IsWorkAnswer {X = X} (Err e) v u b d → IsMoreFault k c n 2 tie read w rows s u a d (Work e)
+  stored_fault {X} e k c n tie read w work most h = record {
+    ended = ended_behind 0 2 rows.number v.made (Just rows.file) Nothing s v u a b d list_above (omega arith) room (λ f live x. absurd x) old_rows given.worked Work (Err (Work e)) (stored_ended {X = X} e v u b d work most h);
+    cause = stored_cause e k c n tie read w rows s u a (λ damage is. h.no_damage damage (ap (λ x. Err x) is));
+  }
 
 -- ---- what was made
 
@@ -256,11 +185,12 @@ pub next_fit : {S : Type 0} (k t : ℕ) (fits : S → Type 0) (made_of : Draft �
 next_fit k t fits made_of drafts each fit = All-weaker (IsPairDraft k t (2 ^ (k + 1))) (λ d. fits (made_of d)) each drafts fit
 
 pub next_made : {R S : Type 0} (k t most : ℕ) (entry : R → Entry) (read : List Bool → R) (w : ℕ) (made_of : Draft → S) (next_read_of : List Bool → S) (x : ℕ) (s v u : ScratchState) (rows pairs next : ListPages) (items drafts : List Draft) (a c d : View)
-    → v ≡ without_file s rows.file → IsScratchDone (IsNameBetween s.base rows.number s.made) (Just rows.file) s v a c
+    → HasGivenRows s v rows a c
     → AreDrafted k t most entry read w rows drafts a → items ≡ drafts
     → AreStored (pair_read k) (pair_width k) next_read_of x v u pairs next (map draft_pair_record items) (map made_of items) c d
     → IsNextMade k t most entry read w made_of next_read_of x s u rows pairs next drafts a d
-next_made {R} {S} k t most entry read w made_of next_read_of x s v u rows pairs next items drafts a c d is done made same given =
+next_made {R} {S} k t most entry read w made_of next_read_of x s v u rows pairs next items drafts a c d gave made same given =
+    let is = gave.left in
     let stored : AreStored (pair_read k) (pair_width k) next_read_of x v u pairs next (map draft_pair_record drafts) (map made_of drafts) c d =
     subst (λ ds. AreStored (pair_read k) (pair_width k) next_read_of x v u pairs next (map draft_pair_record ds) (map made_of ds) c d) same given in
     let count : v.made ≡ s.made = ap (λ (z : ScratchState). z.made) is in
@@ -286,5 +216,5 @@ next_made {R} {S} k t most entry read w made_of next_read_of x s v u rows pairs 
       was_row : (f : ℕ) → c.is_live f ≡ false → a.is_live f ≡ true → f ≡ rows.file
       was_row f gone live = elim (cases_eq f rows.file) [
         | inl same ↦ same
-        | inr other ↦ absurd (false≢true (sym gone ∙ done.kept.live f live other))
+        | inr other ↦ absurd (false≢true (sym gone ∙ gave.worked.done.kept.live f live other))
       ]

@@ -1,19 +1,19 @@
 -- The tables made so far: one more table behind them, and pieces of a run one after another.
-use Rattle.std.proofs.Common.{◌≡◌, ◌≢◌, ◌⊎◌, ℕ, zero, suc, ◌+◌, ◌-◌, ◌/◌, ◌^◌, ◌≤◌, ◌<◌, ◌==◌, not, cond, Bool, true, false, List, [], ◌∷◌, ◌++◌, length, map, filter, Any, get_or, Result, Ok, Err, Option, refl, sym, ap, ◌∙◌, subst, inl, inr, arith, append_assoc}
-use Rattle.std.specs.Prelude.{IsErrOf, IsSome, min}
-use Rattle.std.proofs.lemmas.Bool.{cases_eq, cases_lt, true≢false, ne_eqb}
-use Rattle.std.proofs.lemmas.List.{get_or_append_left, get_or_push, length_push, length-map}
+use Rattle.std.proofs.Common.{◌≡◌, ◌≢◌, ◌⊎◌, ℕ, zero, suc, ◌+◌, ◌*◌, ◌-◌, ◌/◌, ◌^◌, ◌≤◌, ◌<◌, ◌==◌, not, cond, Bool, true, false, List, [], ◌∷◌, ◌++◌, length, map, filter, Any, get_or, Err, Option, refl, sym, ap, ◌∙◌, subst, inl, inr, arith, append_assoc, eq-eqb, length-append}
+use Rattle.std.specs.Prelude.{IsSome, min}
+use Rattle.std.proofs.lemmas.Bool.{cases_eq, cases_lt, false≢true, ne_eqb}
+use Rattle.std.proofs.lemmas.List.{get_or-append-add, get_or_append_left, get_or_push, length_push, length-map}
 use Rattle.std.proofs.lemmas.Simd.{map-map}
 use Rattle.pos_edge.specs.View.{View, IsDisk}
-use Rattle.pos_edge.specs.Frame.{NameOf, Just, SameFaults}
-use Rattle.pos_edge.specs.Calls.{WasThere}
-use Rattle.pos_edge.specs.ScratchNames.{ScratchState, scratch_name, with_file, without_file, IsLeft, StandsOn}
-use Rattle.pos_edge.specs.ScratchWork.{IsNameBetween, IsScratchWork, IsScratchDone}
+use Rattle.pos_edge.specs.Frame.{NameOf, Just}
+use Rattle.pos_edge.specs.ScratchNames.{ScratchState, with_file, without_file, IsLeft, StandsOn}
+use Rattle.pos_edge.specs.ScratchWork.{IsNameBetween, IsScratchWork, IsScratchDone, HasWorked}
+use Rattle.pos_edge.specs.declared.scratch.ScratchDamage.{ScratchDamage}
 use Rattle.pos_edge.specs.declared.scratch.ScratchFile.{ScratchFile}
-use Rattle.pos_edge.specs.declared.scratch.WorkFault.TheVariants.{DiskFailed, Exists, Scratch}
-use Rattle.pos_edge.proofs.FaultLemmas.{Rose-since, faults_then}
-use Rattle.pos_edge.proofs.ScratchFiles.{apart_at, same_number, scratch_name-same}
-use Rattle.pos_edge.proofs.ScratchWorkLemmas.{between_wider, done_then, work_then}
+use Rattle.pos_edge.specs.declared.scratch.WorkFault.{WorkFault}
+use Rattle.pos_edge.specs.declared.scratch.WorkFault.TheVariants.{DiskFailed, Exists, Scratch, Memory}
+use Rattle.pos_edge.proofs.ScratchFiles.{apart_at}
+use Rattle.pos_edge.proofs.ScratchWorkLemmas.{ended_behind, ended_turned, worked_behind}
 use Rattle.pos_tuple.specs.declared.entry.Entry.{Entry}
 use Rattle.pos_record.specs.Kinds.{value_read, pair_read, pair_width}
 use Rattle.pos_lists.specs.TableLists.{pairs_of, entries, with_level}
@@ -31,8 +31,11 @@ use Rattle.pos_forward.specs.declared.faults.ForwardFault.TheVariants.{TableFull
 use Rattle.pos_forward.specs.Drafts.{draft_entry, draft_pair}
 use Rattle.pos_forward.specs.Stored.{draft_pair_record}
 use Rattle.pos_forward.specs.Tables.{IsSortedTable}
-use Rattle.pos_forward.specs.NextTables.{IsLastList, IsNextAnswer, IsNextMade}
-use Rattle.pos_forward.specs.TablesSoFar.{AreDraftedAs, AreEntriesOf, AreTablesTo, HasMoreTables, IsEarlier, IsMoreAnswer}
+use Rattle.pos_forward.specs.Gathering.{IsGatherAnswer}
+use Rattle.pos_forward.specs.NextTables.{IsLastList}
+use Rattle.pos_forward.proofs.MadeTables.{IsNextMade}
+use Rattle.pos_forward.specs.SevenTables.{IsOutOfOrder}
+use Rattle.pos_forward.specs.TablesSoFar.{AreDraftedAs, AreEntriesOf, AreListsByEights, AreTablesTo, HasMoreTables, IsEarlier, IsFileOf, IsMoreCause, IsMoreFault, eights_in}
 use Rattle.pos_forward.proofs.ListLemmas.{map-same}
 use Rattle.pos_forward.proofs.WayLemmas.{kept_name}
 
@@ -71,6 +74,49 @@ still_left s gone first second f other left =
     push_any (λ kept. kept.file.0 ≡ f) ((without_file s gone).left ++ record { number = s.made; file = record { 0 = first } } ∷ []) (record { number = s.made + 1; file = record { 0 = second } })
     (push_any (λ kept. kept.file.0 ≡ f) (without_file s gone).left (record { number = s.made; file = record { 0 = first } }) (filter_left gone f other s.left left))
 
+-- a file that is left after one more was made is that one, or was left before
+push_cases : (P : ScratchFile → Type 0) (files : List ScratchFile) (last : ScratchFile) → Any P (files ++ last ∷ []) → Any P files ⊎ P last
+push_cases P files last (k, x, h, e, p) = elim (cases_lt k (length files)) [
+  | inl less ↦ inl (k, x, less, sym (get_or_append_left files (last ∷ []) x k less) ∙ e, p)
+  | inr more ↦ inr (let l = length_push files last in let is : x ≡ last = sym e ∙ get_or_push files last x k (omega arith) in subst P is p)
+]
+
+-- and after one was given up it is another one
+filter_cases : (gone f : ℕ) (files : List ScratchFile) → Any (λ kept. kept.file.0 ≡ f) (filter (λ kept. not (kept.file.0 == gone)) files) → (f ≢ gone) × Any (λ kept. kept.file.0 ≡ f) files
+filter_cases gone f [] (k, x, h, e, p) = absurd (omega arith)
+filter_cases gone f (y ∷ ys) any = at (not (y.file.0 == gone)) refl (filter_cases gone f ys) any where
+  at : (b : Bool) → not (y.file.0 == gone) ≡ b
+      → (Any (λ kept. kept.file.0 ≡ f) (filter (λ kept. not (kept.file.0 == gone)) ys) → (f ≢ gone) × Any (λ kept. kept.file.0 ≡ f) ys)
+      → Any (λ kept. kept.file.0 ≡ f) (cond b (y ∷ filter (λ kept. not (kept.file.0 == gone)) ys) (filter (λ kept. not (kept.file.0 == gone)) ys))
+      → (f ≢ gone) × Any (λ kept. kept.file.0 ≡ f) (y ∷ ys)
+  at true is rest (zero, x, h, e, p) =
+      let same : y.file.0 ≡ f = ap (λ (z : ScratchFile). z.file.0) e ∙ p in
+      (λ other. false≢true (sym (ap not (eq-eqb y.file.0 gone (same ∙ other))) ∙ is), (0, y, omega arith, refl, same))
+  at true is rest (suc k, x, h, e, p) = let found = rest (k, x, omega arith, e, p) in (found.0, any_suc (λ kept. kept.file.0 ≡ f) y ys found.1)
+  at false is rest any = let found = rest any in (found.0, any_suc (λ kept. kept.file.0 ≡ f) y ys found.1)
+
+-- after one was given up and two were made
+left_of_next : (s : ScratchState) (gone first second f : ℕ) → IsLeft (with_file (with_file (without_file s gone) first) second) f → ((f ≢ gone) × IsLeft s f) ⊎ ((f ≡ first) ⊎ (f ≡ second))
+left_of_next s gone first second f left =
+    elim (push_cases (λ kept. kept.file.0 ≡ f) ((without_file s gone).left ++ record { number = s.made; file = record { 0 = first } } ∷ []) (record { number = s.made + 1; file = record { 0 = second } }) left) [
+      | inl before ↦ elim (push_cases (λ kept. kept.file.0 ≡ f) (without_file s gone).left (record { number = s.made; file = record { 0 = first } }) before) [
+        | inl old ↦ inl (filter_cases gone f s.left old)
+        | inr is ↦ inr (inl (sym is))
+      ]
+      | inr is ↦ inr (inr (sym is))
+    ]
+
+-- after two were made
+pub left_of_two : (s : ScratchState) (first second f : ℕ) → IsLeft (with_file (with_file s first) second) f → IsLeft s f ⊎ ((f ≡ first) ⊎ (f ≡ second))
+left_of_two s first second f left =
+    elim (push_cases (λ kept. kept.file.0 ≡ f) (s.left ++ record { number = s.made; file = record { 0 = first } } ∷ []) (record { number = s.made + 1; file = record { 0 = second } }) left) [
+      | inl before ↦ elim (push_cases (λ kept. kept.file.0 ≡ f) s.left (record { number = s.made; file = record { 0 = first } }) before) [
+        | inl old ↦ inl old
+        | inr is ↦ inr (inl (sym is))
+      ]
+      | inr is ↦ inr (inr (sym is))
+    ]
+
 pub first_left : (s : ScratchState) (first second : ℕ) → IsLeft (with_file (with_file s first) second) first
 first_left s first second =
     push_any (λ kept. kept.file.0 ≡ first) (s.left ++ record { number = s.made; file = record { 0 = first } } ∷ []) (record { number = s.made + 1; file = record { 0 = second } })
@@ -101,20 +147,32 @@ at_before lists last m few = get_or_append_left lists (last ∷ []) no_pages m f
 at_last : (lists : TablesState) (last : ListPages) (m : ℕ) → length lists ≡ m → pages_at (lists ++ last ∷ []) m ≡ last
 at_last lists last m is = get_or_push lists last no_pages m is
 
+-- the files of lists one behind the other
+pub file_of_left : (xs ys : TablesState) (f : ℕ) → IsFileOf xs f → IsFileOf (xs ++ ys) f
+file_of_left xs ys f (m, less, is) = (m, omega (arith, length-append xs ys), is ∙ ap (λ (z : ListPages). z.file) (sym (get_or_append_left xs ys no_pages m less)))
+
+pub file_of_right : (xs ys : TablesState) (f : ℕ) → IsFileOf ys f → IsFileOf (xs ++ ys) f
+file_of_right xs ys f (m, less, is) = (length xs + m, omega (arith, length-append xs ys), is ∙ ap (λ (z : ListPages). z.file) (sym (get_or-append-add xs ys m no_pages)))
+
 pairs_as_records : (drafts : List Draft) → map draft_pair_record drafts ≡ map pair_record (map draft_pair drafts)
 pairs_as_records drafts = sym (map-map pair_record draft_pair drafts)
 
 -- ---- one table more
 
 module _ {R S : Type 0} (k c n : ℕ) (entry : R → Entry) (read : List Bool → R) (w : ℕ) (made_of : Draft → S) (next_read : List Bool → S) (x : ℕ) (s u : ScratchState) (rows pairs next : ListPages) (drafts : List Draft) (a d : View)
-    (disk : IsDisk a) (last : IsLastList s rows a) (work : IsScratchWork (IsNameBetween s.base rows.number (u.made + 1)) (Just rows.file) s u a d)
-    (done : IsScratchDone (IsNameBetween s.base rows.number u.made) (Just rows.file) s u a d)
+    (disk : IsDisk a) (last : IsLastList s rows a) (worked : HasWorked 2 rows.number (Just rows.file) s u a d)
     (made : IsNextMade k (n + 2) c entry read w made_of next_read x s u rows pairs next drafts a d) where
+  abbrev work : IsScratchWork (IsNameBetween s.base rows.number (u.made + 1)) (Just rows.file) s u a d
+  work = worked.work
+
+  abbrev done : IsScratchDone (IsNameBetween s.base rows.number u.made) (Just rows.file) s u a d
+  done = worked.done
+
   next_stands : StandsOn u d
   next_stands = work.stands last.standing
 
   next_two : u.made ≡ s.made + 2
-  next_two = let e : u.made ≡ s.made + 1 + 1 = ap (λ (z : ScratchState). z.made) made.files.is in omega arith
+  next_two = worked.made
 
   pairs_are_apart : pairs.file ≢ next.file
   pairs_are_apart = two_apart (without_file s rows.file) pairs.file next.file d (subst (λ z. StandsOn z d) made.files.is next_stands)
@@ -192,6 +250,7 @@ module _ {R S : Type 0} (k c n : ℕ) (entry : R → Entry) (read : List Bool �
     kept = next_kept;
     as_long = next_count ∙ sym pairs_count ∙ ap (λ (z : ListPages). z.count) (sym (at_last so_far pairs (suc n) h.so_many));
     tied = record { drafts = drafts; entries = refl; kept_as = refl };
+    first = ap (λ (z : ListPages). z.count) (at_before so_far pairs 0 (let many = h.so_many in omega arith)) ∙ h.first;
     few = λ m low high. elim (cases_lt m (suc n)) [ inl less ↦ few_before m low less | inr not_less ↦ few_last m (omega arith) ];
     made = λ told.
         let told_before : a.tells ≡ true = sym done.kept.tells ∙ told in
@@ -233,32 +292,31 @@ module _ {R S : Type 0} (k c n : ℕ) (entry : R → Entry) (read : List Bool �
 
   next_more : HasMoreTables k c n (suc n) (AreEntriesOf entry) read w (AreDraftedAs k (n + 2) made_of) next_read x s u rows (pairs ∷ []) next a d
   next_more = record {
+    many = 2;
+    so_many = omega arith;
+    worked = worked;
     last = next_last;
     holds = (map made_of drafts, next_kept);
     few = let count = next_count in let within = made.within in omega arith;
-    made = let two = next_two in omega arith;
     new_file = made.files.next_new;
+    only = λ f left. elim (left_of_next s rows.file pairs.file next.file f (subst (λ z. IsLeft z f) made.files.is left)) [
+      | inl before ↦ inl before
+      | inr new ↦ elim new [ inl is ↦ inr (inl (0, omega arith, is)) | inr is ↦ inr (inr is) ]
+    ];
     tables = next_tables;
   }
 
 -- the same where the table is named by its number
 pub more_at : {R S : Type 0} (k c n m t : ℕ) (entry : R → Entry) (read : List Bool → R) (w : ℕ) (made_of : Draft → S) (next_read : List Bool → S) (x : ℕ) (s u : ScratchState) (rows pairs next : ListPages) (drafts : List Draft) (a d : View)
-    → n + 2 ≡ t → suc n ≡ m → IsDisk a → IsLastList s rows a → IsScratchWork (IsNameBetween s.base rows.number (u.made + 1)) (Just rows.file) s u a d
-    → IsScratchDone (IsNameBetween s.base rows.number u.made) (Just rows.file) s u a d → IsNextMade k t c entry read w made_of next_read x s u rows pairs next drafts a d
+    → n + 2 ≡ t → suc n ≡ m → IsDisk a → IsLastList s rows a → HasWorked 2 rows.number (Just rows.file) s u a d → IsNextMade k t c entry read w made_of next_read x s u rows pairs next drafts a d
     → HasMoreTables k c n m (AreEntriesOf entry) read w (AreDraftedAs k t made_of) next_read x s u rows (pairs ∷ []) next a d
-more_at k c n m t entry read w made_of next_read x s u rows pairs next drafts a d table level disk last work done made =
+more_at k c n m t entry read w made_of next_read x s u rows pairs next drafts a d table level disk last worked made =
     subst (λ z. HasMoreTables k c n z (AreEntriesOf entry) read w (AreDraftedAs k t made_of) next_read x s u rows (pairs ∷ []) next a d) level
     (subst (λ z. HasMoreTables k c n (suc n) (AreEntriesOf entry) read w (AreDraftedAs k z made_of) next_read x s u rows (pairs ∷ []) next a d) table
-    (next_more k c n entry read w made_of next_read x s u rows pairs next drafts a d disk last work done
+    (next_more k c n entry read w made_of next_read x s u rows pairs next drafts a d disk last worked
     (subst (λ z. IsNextMade k z c entry read w made_of next_read x s u rows pairs next drafts a d) (sym table) made)))
 
 -- ---- why one table more was not made
-
-err_as : (X Y : Type 0) (e f : ForwardFault) → IsErrOf {T = Y} (Err e) f → IsErrOf {T = X} (Err e) f
-err_as X Y e f is = let same : e ≡ f = cc in ap (λ x. Err x) same
-
-not_err : (Y : Type 0) (x : Y) (f : ForwardFault) → IsErrOf {T = Y} (Ok x) f → ⊥
-not_err Y x f is = true≢false (let z : true ≡ false = cc in z)
 
 -- a level has as many entries as its list has records
 pub level_count : {R : Type 0} (id : List ℕ) (k c n : ℕ) (tie : List Entry → List R → Type 0) (read : List Bool → R) (w : ℕ) (s : ScratchState) (lists : TablesState) (rows : ListPages) (v : View) → (h : AreTablesTo id k c n tie read w s lists rows v)
@@ -271,114 +329,121 @@ level_count id k c n tie read w s lists rows v h (suc m) low high =
     let same = length-map (pairs_of h.ts (suc m)) pair_record in
     omega arith
 
-pub answer_at : {X Y R : Type 0} (e : ForwardFault) (k c n t : ℕ) (entry : R → Entry) (read : List Bool → R) (w : ℕ) (rows : ListPages) (s u : ScratchState) (a b : View)
-    → n + 2 ≡ t → n < 6 → IsNextAnswer {X = X} (Err e) k t c entry read w rows s u a b → IsMoreAnswer {X = Y} (Err e) k c n (AreEntriesOf entry) read w rows s u a b
-answer_at {X} {Y} {R} e k c n t entry read w rows s u a b table less h = record {
-  failed = λ p. h.failed (err_as X Y e (Work DiskFailed) p);
-  quiet = h.quiet;
-  exists = λ file p. h.exists file (err_as X Y e (Work (Exists file)) p);
-  full = λ number p id so_far tables told. full number (err_as X Y e (TableFull number) p) id so_far tables told;
-  never = λ damage p id so_far tables told. h.never damage (err_as X Y e (Work (Scratch damage)) p) tables.xs tables.kept.holds told (subst NeverFalls tables.tied (tables.made told).2);
-  range = λ damage p. h.range damage (err_as X Y e (Work (Scratch damage)) p);
-} where
-  full : (number : ℕ) → IsErrOf {T = X} (Err e) (TableFull number) → (id : List ℕ) (so_far : TablesState) → AreTablesTo id k c n (AreEntriesOf entry) read w s so_far rows a → a.tells ≡ true → IsFull id k c number
-  full number p id so_far tables told =
-      let pairs = h.full number p tables.xs tables.kept.holds told in
-      let made = tables.made told in
-      subst (IsFull id k c) (table ∙ sym (h.table number p))
-      (more_pairs_are_full tables.ts id k n c (map entry tables.xs) pairs.0 less made.0
-      (level_count id k c n (AreEntriesOf entry) read w s so_far rows a tables) (subst (AreNodes tables.ts id k n) tables.tied made.1) pairs.2 pairs.1)
+-- a table would be too large, or its rows were out of order
+pub gathered_cause : {X R : Type 0} (f : ForwardFault) (k c n t : ℕ) (entry : R → Entry) (read : List Bool → R) (w : ℕ) (rows : ListPages) (s : ScratchState) (a b : View)
+    → n + 2 ≡ t → n < 6 → rows.number + 1 ≡ s.made → IsGatherAnswer {X = X} (Err f) k t c entry read w rows a b → IsMoreCause k c n (AreEntriesOf entry) read w rows s s a f
+gathered_cause {X} {R} (TableFull table) k c n t entry read w rows s a b level less last h = λ id so_far tables told.
+    let pairs = h.full table refl tables.xs tables.kept.holds told in
+    let made = tables.made told in
+    subst (IsFull id k c) (level ∙ sym (h.table table refl))
+    (more_pairs_are_full tables.ts id k n c (map entry tables.xs) pairs.0 less made.0
+    (level_count id k c n (AreEntriesOf entry) read w s so_far rows a tables) (subst (AreNodes tables.ts id k n) tables.tied made.1) pairs.2 pairs.1)
+gathered_cause {X} {R} (Work DiskFailed) k c n t entry read w rows s a b level less last h = tt
+gathered_cause {X} {R} (Work (Exists file)) k c n t entry read w rows s a b level less last h = tt
+gathered_cause {X} {R} (Work (Scratch damage)) k c n t entry read w rows s a b level less last h = (
+  subst (λ (made : ℕ). IsOutOfOrder k rows.number made damage) last (h.range damage refl),
+  λ id so_far tables told. h.never damage refl tables.xs tables.kept.holds told (subst NeverFalls tables.tied (tables.made told).2),
+)
+gathered_cause {X} {R} (Work Memory) k c n t entry read w rows s a b level less last h = tt
 
-pub answer_well : {Y R : Type 0} (y : Y) (k c n : ℕ) (tie : List Entry → List R → Type 0) (read : List Bool → R) (w : ℕ) (rows : ListPages) (s u : ScratchState) (a b : View) → SameFaults a b → IsMoreAnswer {X = Y} (Ok y) k c n tie read w rows s u a b
-answer_well {Y} {R} y k c n tie read w rows s u a b quiet = record {
-  failed = λ p. absurd (not_err Y y (Work DiskFailed) p);
-  quiet = quiet;
-  exists = λ file p. absurd (not_err Y y (Work (Exists file)) p);
-  full = λ table p. absurd (not_err Y y (TableFull table) p);
-  never = λ damage p. absurd (not_err Y y (Work (Scratch damage)) p);
-  range = λ damage p. absurd (not_err Y y (Work (Scratch damage)) p);
-}
-
--- the same error of another call
-pub more_turned : {X Y R : Type 0} (e : ForwardFault) (k c n : ℕ) (tie : List Entry → List R → Type 0) (read : List Bool → R) (w : ℕ) (rows : ListPages) (s u : ScratchState) (a b : View)
-    → IsMoreAnswer {X = X} (Err e) k c n tie read w rows s u a b → IsMoreAnswer {X = Y} (Err e) k c n tie read w rows s u a b
-more_turned {X} {Y} {R} e k c n tie read w rows s u a b h = record {
-  failed = λ p. h.failed (err_as X Y e (Work DiskFailed) p);
-  quiet = h.quiet;
-  exists = λ file p. h.exists file (err_as X Y e (Work (Exists file)) p);
-  full = λ table p. h.full table (err_as X Y e (TableFull table) p);
-  never = λ damage p. h.never damage (err_as X Y e (Work (Scratch damage)) p);
-  range = λ damage p. h.range damage (err_as X Y e (Work (Scratch damage)) p);
-}
+-- the work on scratch files alone ended: nothing is full, and no row out of order
+pub stored_cause : {R : Type 0} (e : WorkFault) (k c n : ℕ) (tie : List Entry → List R → Type 0) (read : List Bool → R) (w : ℕ) (rows : ListPages) (s u : ScratchState) (a : View)
+    → ((damage : ScratchDamage) → e ≡ Scratch damage → ⊥) → IsMoreCause k c n tie read w rows s u a (Work e)
+stored_cause DiskFailed k c n tie read w rows s u a none = tt
+stored_cause (Exists file) k c n tie read w rows s u a none = tt
+stored_cause (Scratch damage) k c n tie read w rows s u a none = absurd (none damage refl)
+stored_cause Memory k c n tie read w rows s u a none = tt
 
 -- ---- pieces one after another
 
--- Two pieces of work, of which the second gives up the rows that the first left.
-pub further_work : (ids : ℕ → Type 0) (low : ℕ) (s t u : ScratchState) (rows : ListPages) (a b c : View) → low ≤ rows.number → u.made ≤ s.made + 40
-    → ((f : ℕ) → a.is_live f ≡ true → ids f → IsLeft s f ⊎ (b.is_live f ≡ true)) → (a.is_live rows.file ≡ true → ids rows.file)
-    → IsScratchWork (IsNameBetween s.base low (t.made + 1)) ids s t a b → IsScratchWork (IsNameBetween t.base rows.number (u.made + 1)) (Just rows.file) t u b c
-    → IsScratchWork (IsNameBetween s.base low (u.made + 1)) ids s u a c
-further_work ids low s t u rows a b c above few stay new p q =
-    let more = q.more in
-    work_then (IsNameBetween s.base low (u.made + 1)) (IsNameBetween s.base low (t.made + 1)) (IsNameBetween t.base rows.number (u.made + 1)) ids ids (Just rows.file) s t u a b c
-    (λ n x. between_wider s.base low (t.made + 1) low (u.made + 1) n (omega arith) (omega arith) x)
-    (λ n x. between_wider s.base rows.number (u.made + 1) low (u.made + 1) n above (omega arith) (subst (λ base. IsNameBetween base rows.number (u.made + 1) n) p.base x))
-    (λ f l x. x) (λ f l x. subst ids (sym x) (new (subst (λ g. a.is_live g ≡ true) x l))) stay few p q
-
-pub further_done : (ids : ℕ → Type 0) (low : ℕ) (s t u : ScratchState) (rows : ListPages) (a b c : View) → low ≤ rows.number → t.base ≡ s.base → t.made ≤ u.made → u.made ≤ 10000
-    → (a.is_live rows.file ≡ true → ids rows.file)
-    → IsScratchDone (IsNameBetween s.base low t.made) ids s t a b → IsScratchDone (IsNameBetween t.base rows.number u.made) (Just rows.file) t u b c
-    → IsScratchDone (IsNameBetween s.base low u.made) ids s u a c
-further_done ids low s t u rows a b c above base more few new p q =
-    done_then (IsNameBetween s.base low u.made) (IsNameBetween s.base low t.made) (IsNameBetween t.base rows.number u.made) ids ids (Just rows.file) s t u a b c
-    (λ n x. between_wider s.base low t.made low u.made n (omega arith) more x)
-    (λ n x. between_wider s.base rows.number u.made low u.made n above (omega arith) (subst (λ base. IsNameBetween base rows.number u.made n) base x))
-    (λ f l x. x) (λ f l x. subst ids (sym x) (new (subst (λ g. a.is_live g ≡ true) x l))) base
-    (λ m from to (i, from_low, high, same). let e : i ≡ m = same_number s.base u.made i m few (omega arith) to (sym same) in omega arith) p q
-
--- a name from the last number on that was there after work that went well was there before
-pub there_before : (ids : ℕ → Type 0) (low : ℕ) (s t : ScratchState) (m : ℕ) (a b : View) → m < 2 ^ 64 → t.made ≤ m → t.base ≡ s.base → IsScratchDone (IsNameBetween s.base low t.made) ids s t a b
-    → WasThere (scratch_name t.base m) b → WasThere (scratch_name s.base m) a
-there_before ids low s t m a b few later base done there told =
-    let same : b.contents (scratch_name s.base m) ≡ a.contents (scratch_name s.base m) =
-    done.kept.contents (scratch_name s.base m) (λ (i, from, high, is). let e : m ≡ i = scratch_name-same s.base m i few (omega arith) is in omega arith) in
-    subst (λ (z : Option (List ℕ)). IsSome z) same (subst (λ q. WasThere (scratch_name q m) b) base there (done.kept.tells ∙ told))
-
--- why the second was not made
-pub further_answer : {Y R S : Type 0} (r : Result Y ForwardFault) (k c n m : ℕ) (tie : List Entry → List R → Type 0) (read : List Bool → R) (w : ℕ) (next_tie : List Entry → List S → Type 0) (next_read : List Bool → S) (x : ℕ)
-    (s t u : ScratchState) (rows : ListPages) (lists : TablesState) (next : ListPages) (a b d : View) → t.base ≡ s.base → t.made ≤ u.made → u.made ≤ 10000
-    → IsScratchDone (IsNameBetween s.base rows.number t.made) (Just rows.file) s t a b → SameFaults a b
-    → HasMoreTables k c n m tie read w next_tie next_read x s t rows lists next a b → IsMoreAnswer r k c m next_tie next_read x next t u b d
-    → IsMoreAnswer r k c n tie read w rows s u a d
-further_answer r k c n m tie read w next_tie next_read x s t u rows lists next a b d base more few done quiet first h = record {
-  failed = λ p. Rose-since a.faults b.faults d.faults done.kept.faults (h.failed p);
-  quiet = faults_then (Work DiskFailed) r a b d quiet h.quiet;
-  exists = λ file p. let y = h.exists file p in let is : file ≡ u.made = y.0 in (is, there_before (Just rows.file) rows.number s t file a b (omega arith) (omega arith) base done y.1);
-  full = λ table p id so_far tables told. h.full table p id (so_far ++ lists) (first.tables id so_far tables) (done.kept.tells ∙ told);
-  never = λ damage p id so_far tables told. h.never damage p id (so_far ++ lists) (first.tables id so_far tables) (done.kept.tells ∙ told);
-  range = h.range;
+-- the file that is out of order was made later than another one
+pub order_from : (k low first made : ℕ) (damage : ScratchDamage) → low ≤ first → IsOutOfOrder k first made damage → IsOutOfOrder k low made damage
+order_from k low first made damage above h = record {
+  earliest = let from = h.earliest in omega arith;
+  last = h.last;
+  behind = h.behind;
+  below = h.below;
+  least = h.least;
+  limit = h.limit;
 }
 
--- and what both made
-pub more_then : {Q R S : Type 0} (k c n m l : ℕ) (tie : List Entry → List Q → Type 0) (read : List Bool → Q) (w : ℕ) (mid_tie : List Entry → List R → Type 0) (mid_read : List Bool → R) (y : ℕ)
-    (next_tie : List Entry → List S → Type 0) (next_read : List Bool → S) (x : ℕ) (s t u : ScratchState) (rows mid next : ListPages) (lists others : TablesState) (a b d : View)
-    → IsScratchDone (IsNameBetween s.base rows.number t.made) (Just rows.file) s t a b
-    → HasMoreTables k c n m tie read w mid_tie mid_read y s t rows lists mid a b → HasMoreTables k c m l mid_tie mid_read y next_tie next_read x t u mid others next b d
-    → HasMoreTables k c n l tie read w next_tie next_read x s u rows (lists ++ others) next a d
-more_then k c n m l tie read w mid_tie mid_read y next_tie next_read x s t u rows mid next lists others a b d done p q = record {
-  last = q.last;
-  holds = q.holds;
-  few = q.few;
-  made = let first = p.made in let second = q.made in omega arith;
-  new_file = λ live. elim (cases_eq next.file rows.file) [
-    | inl same ↦ same
-    | inr other ↦
-        let same : next.file ≡ mid.file = q.new_file (done.kept.live next.file live other) in
-        same ∙ p.new_file (subst (λ f. a.is_live f ≡ true) same live)
-  ];
-  tables = λ id so_far h.
-      subst (λ all. AreTablesTo id k c l next_tie next_read x u all next d) (append_assoc so_far lists others) (q.tables id (so_far ++ lists) (p.tables id so_far h));
-}
+-- why the second of two pieces did not end well
+more_cause : {R S : Type 0} (f : ForwardFault) (k c n m : ℕ) (tie : List Entry → List R → Type 0) (read : List Bool → R) (w : ℕ) (next_tie : List Entry → List S → Type 0) (next_read : List Bool → S) (x : ℕ)
+    (s t u : ScratchState) (rows : ListPages) (lists : TablesState) (next : ListPages) (a b : View) → rows.number ≤ next.number
+    → HasMoreTables k c n m tie read w next_tie next_read x s t rows lists next a b → IsMoreCause k c m next_tie next_read x next t u b f → IsMoreCause k c n tie read w rows s u a f
+more_cause (TableFull table) k c n m tie read w next_tie next_read x s t u rows lists next a b above p h = λ id so_far tables told. h id (so_far ++ lists) (p.tables id so_far tables) (p.worked.done.kept.tells ∙ told)
+more_cause (Work DiskFailed) k c n m tie read w next_tie next_read x s t u rows lists next a b above p h = tt
+more_cause (Work (Exists file)) k c n m tie read w next_tie next_read x s t u rows lists next a b above p h = tt
+more_cause (Work (Scratch damage)) k c n m tie read w next_tie next_read x s t u rows lists next a b above p h =
+    (order_from k rows.number next.number u.made damage above h.0, λ id so_far tables told. h.1 id (so_far ++ lists) (p.tables id so_far tables) (p.worked.done.kept.tells ∙ told))
+more_cause (Work Memory) k c n m tie read w next_tie next_read x s t u rows lists next a b above p h = tt
+
+-- with more files allowed
+pub more_wider : {R : Type 0} (f : ForwardFault) (k c n most all : ℕ) (tie : List Entry → List R → Type 0) (read : List Bool → R) (w : ℕ) (rows : ListPages) (s u : ScratchState) (a b : View) → most ≤ all
+    → IsMoreFault k c n most tie read w rows s u a b f → IsMoreFault k c n all tie read w rows s u a b f
+more_wider f k c n most all tie read w rows s u a b within h = record { ended = ended_turned {X = Unit {0}} {Y = Unit {0}} Work most all rows.number (Just rows.file) f s u a b within h.ended; cause = h.cause }
+
+-- the last rows of a piece were made behind those of the one before
+rows_above : (number other made after : ℕ) → number + 1 ≡ made → other + 1 ≡ after → made ≤ after → number ≤ other
+rows_above number other made after p q more = omega arith
+
+-- numbers of files
+both_many : (p q n m l : ℕ) → p + 2 * n ≡ 2 * m → q + 2 * m ≡ 2 * l → p + q + 2 * n ≡ 2 * l
+both_many p q n m l first second = omega arith
+
+few_both : (p q n l : ℕ) → p + q + 2 * n ≡ 2 * l → l ≤ 6 → p + q ≤ 40
+few_both p q n l both high = omega arith
+
+room_both : (made p q n l : ℕ) → p + q + 2 * n ≡ 2 * l → made + 2 * l ≤ 10000 + 2 * n → made + (p + q) ≤ 10000
+room_both made p q n l both room = omega arith
+
+-- the module's arguments: two pieces, of which the first went well
+module _ {R S : Type 0} (k c n m : ℕ) (tie : List Entry → List R → Type 0) (read : List Bool → R) (w : ℕ) (mid_tie : List Entry → List S → Type 0) (mid_read : List Bool → S) (y : ℕ)
+    (s t u : ScratchState) (rows mid : ListPages) (lists : TablesState) (a b d : View) (list : IsLastList s rows a) (p : HasMoreTables k c n m tie read w mid_tie mid_read y s t rows lists mid a b) where
+  abbrev new_rows : (f : ℕ) → a.is_live f ≡ true → f ≡ mid.file → f ≡ rows.file
+  new_rows f live is = is ∙ p.new_file (subst (λ g. a.is_live g ≡ true) is live)
+
+  abbrev old_rows : (f : ℕ) → a.is_live f ≡ true → f ≡ rows.file → IsLeft s f ⊎ (b.is_live f ≡ true)
+  old_rows f live is = inl (subst (IsLeft s) (sym is) list.left)
+
+  mid_above : rows.number ≤ mid.number
+  mid_above = rows_above rows.number mid.number s.made t.made list.last p.last.last p.worked.work.more
+
+  pub more_refused : (f : ForwardFault) (many most all : ℕ) → p.many ≡ many → many + most ≡ all → all ≤ 40 → s.made + all ≤ 10000 → IsMoreFault k c m most mid_tie mid_read y mid t u b d f → IsMoreFault k c n all tie read w rows s u a d f
+  more_refused f many most all is sum few room h = subst (λ z. IsMoreFault k c n z tie read w rows s u a d f) (ap (λ z. z + most) is ∙ sum) (record {
+    ended = ended_behind p.many most rows.number mid.number (Just rows.file) (Just mid.file) s t u a b d mid_above (subst (λ z. z ≤ 40) (sym (ap (λ z. z + most) is ∙ sum)) few) (subst (λ z. s.made + z ≤ 10000) (sym (ap (λ z. z + most) is ∙ sum)) room)
+        new_rows old_rows p.worked Work (Err f) h.ended;
+    cause = more_cause f k c n m tie read w mid_tie mid_read y s t u rows lists mid a b mid_above p h.cause;
+  })
+
+  -- and what both made
+  pub more_then : {Q : Type 0} (l : ℕ) (next_tie : List Entry → List Q → Type 0) (next_read : List Bool → Q) (x : ℕ) (next : ListPages) (others : TablesState) → l ≤ 6 → s.made + 2 * l ≤ 10000 + 2 * n
+      → HasMoreTables k c m l mid_tie mid_read y next_tie next_read x t u mid others next b d → HasMoreTables k c n l tie read w next_tie next_read x s u rows (lists ++ others) next a d
+  more_then l next_tie next_read x next others high room q =
+      let both = both_many p.many q.many n m l p.so_many q.so_many in
+      record {
+        many = p.many + q.many;
+        so_many = both;
+        worked = worked_behind p.many q.many rows.number mid.number (Just rows.file) (Just mid.file) s t u a b d mid_above (few_both p.many q.many n l both high) (room_both s.made p.many q.many n l both room) new_rows old_rows p.worked q.worked;
+        last = q.last;
+        holds = q.holds;
+        few = q.few;
+        new_file = λ live. elim (cases_eq next.file rows.file) [
+          | inl same ↦ same
+          | inr other ↦
+              let same : next.file ≡ mid.file = q.new_file (p.worked.done.kept.live next.file live other) in
+              same ∙ p.new_file (subst (λ f. a.is_live f ≡ true) same live)
+        ];
+        only = λ f left. elim (q.only f left) [
+          | inl before ↦ elim (p.only f before.1) [
+            | inl old ↦ inl old
+            | inr new ↦ elim new [ inl list ↦ inr (inl (file_of_left lists others f list)) | inr is ↦ absurd (before.0 is) ]
+          ]
+          | inr new ↦ elim new [ inl list ↦ inr (inl (file_of_right lists others f list)) | inr is ↦ inr (inr is) ]
+        ];
+        tables = λ id so_far h.
+            subst (λ all. AreTablesTo id k c l next_tie next_read x u all next d) (append_assoc so_far lists others) (q.tables id (so_far ++ lists) (p.tables id so_far h));
+      }
 
 -- the records may be tied to the entries in another way
 retied : {R : Type 0} (id : List ℕ) (k c n : ℕ) (tie other : List Entry → List R → Type 0) (read : List Bool → R) (w : ℕ) (s : ScratchState) (lists : TablesState) (rows : ListPages) (v : View)
@@ -394,6 +459,7 @@ retied id k c n tie other read w s lists rows v turn h = record {
   kept = h.kept;
   as_long = h.as_long;
   tied = turn h.es h.xs h.tied;
+  first = h.first;
   few = h.few;
   made = h.made;
 }
@@ -404,9 +470,12 @@ pub more_retied : {R S : Type 0} (k c n m : ℕ) (tie : List Entry → List R �
 more_retied k c n m tie read w next_tie other next_read x s u rows lists next a d turn h = record {
   last = h.last;
   holds = h.holds;
+  many = h.many;
+  so_many = h.so_many;
+  worked = h.worked;
   few = h.few;
-  made = h.made;
   new_file = h.new_file;
+  only = h.only;
   tables = λ id so_far tables. retied id k c m next_tie other next_read x u (so_far ++ lists) next d turn (h.tables id so_far tables);
 }
 
@@ -417,17 +486,16 @@ drafted_entries k t made_of entry same es xs h =
     h.entries ∙ map-same (draft_entry k t) (λ draft. entry (made_of draft)) h.drafts (λ i d lt. sym (same (get_or h.drafts i d)))
     ∙ sym (map-map entry made_of h.drafts) ∙ ap (map entry) (sym h.kept_as)
 
--- one table more, with the entries of its rows
-pub more_rows_at : {R S : Type 0} (k c n m t : ℕ) (entry : R → Entry) (read : List Bool → R) (w : ℕ) (made_of : Draft → S) (next_entry : S → Entry) (next_read : List Bool → S) (x : ℕ) (s u : ScratchState) (rows pairs next : ListPages) (drafts : List Draft) (a d : View)
-    → n + 2 ≡ t → suc n ≡ m → ((draft : Draft) → next_entry (made_of draft) ≡ draft_entry k t draft) → IsDisk a → IsLastList s rows a → IsScratchWork (IsNameBetween s.base rows.number (u.made + 1)) (Just rows.file) s u a d
-    → IsScratchDone (IsNameBetween s.base rows.number u.made) (Just rows.file) s u a d → IsNextMade k t c entry read w made_of next_read x s u rows pairs next drafts a d
-    → HasMoreTables k c n m (AreEntriesOf entry) read w (AreEntriesOf next_entry) next_read x s u rows (pairs ∷ []) next a d
-more_rows_at k c n m t entry read w made_of next_entry next_read x s u rows pairs next drafts a d table level same disk last work done made =
-    more_retied k c n m (AreEntriesOf entry) read w (AreDraftedAs k t made_of) (AreEntriesOf next_entry) next_read x s u rows (pairs ∷ []) next a d (drafted_entries k t made_of next_entry same)
-    (more_at k c n m t entry read w made_of next_read x s u rows pairs next drafts a d table level disk last work done made)
-
 -- ---- eights
 
-pub eights_of_two : (before middle now x y p q : ℕ) → min (before + x / 8) (2 ^ 64 - 1) ≤ middle → min (middle + y / 8) (2 ^ 64 - 1) ≤ now → p ≡ x → q ≡ y
-    → min (before + (p / 8 + (q / 8 + 0))) (2 ^ 64 - 1) ≤ now
-eights_of_two before middle now x y p q first second is_x is_y = omega arith
+eights_in-append : (xs ys : TablesState) → eights_in (xs ++ ys) ≡ eights_in xs + eights_in ys
+eights_in-append [] ys = omega arith
+eights_in-append (x ∷ xs) ys = let tail = eights_in-append xs ys in omega arith
+
+-- entries that were made by eights, and then others
+pub eights_then : (before middle now : ℕ) (xs ys : TablesState) → AreListsByEights before middle xs → AreListsByEights middle now ys → AreListsByEights before now (xs ++ ys)
+eights_then before middle now xs ys first second = let both = eights_in-append xs ys in omega arith
+
+-- those of one table
+pub eights_of_one : (before now count x : ℕ) → min (before + x / 8) (2 ^ 64 - 1) ≤ now → count ≡ x → min (before + (count / 8 + 0)) (2 ^ 64 - 1) ≤ now
+eights_of_one before now count x h is = omega arith

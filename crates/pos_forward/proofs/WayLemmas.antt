@@ -1,16 +1,17 @@
 -- Two new lists from their making to their sealing.
-use Rattle.std.proofs.Common.{◌≡◌, ℕ, ◌+◌, ◌≤◌, Bool, true, false, List, [], Result, Err, Some, sym, ap, ◌∙◌, subst, inl, inr, arith}
+use Rattle.std.proofs.Common.{◌≡◌, ℕ, ◌+◌, ◌^◌, ◌≤◌, ◌<◌, Bool, true, false, List, [], Result, Err, Some, sym, ap, ◌∙◌, subst, inl, inr, arith}
 use Rattle.std.specs.Prelude.{IsErrOf}
 use Rattle.std.proofs.lemmas.Bool.{cases_Bool, true≢false}
 use Rattle.std.proofs.lemmas.Option.{none-some}
 use Rattle.pos_edge.specs.Faults.{Rose}
 use Rattle.pos_edge.specs.View.{View, IsDisk}
 use Rattle.pos_edge.specs.Frame.{Nothing, NameOf, SameFaults, SameFaultsBut}
-use Rattle.pos_edge.specs.ScratchNames.{ScratchState, scratch_name, with_file}
+use Rattle.pos_edge.specs.ScratchNames.{ScratchState, scratch_name, with_file, StandsOn}
 use Rattle.pos_edge.specs.ScratchWork.{IsNameBetween, IsScratchWork, IsScratchDone}
 use Rattle.pos_edge.specs.declared.scratch.ScratchDamage.{ScratchDamage}
 use Rattle.pos_edge.specs.declared.scratch.WorkFault.{WorkFault}
 use Rattle.pos_edge.specs.declared.scratch.WorkFault.TheVariants.{DiskFailed, Exists, Scratch}
+use Rattle.pos_edge.proofs.ScratchFiles.{scratch_name-same}
 use Rattle.pos_edge.proofs.ScratchWorkLemmas.{done_beside, done_then, name_is_there, work_beside, work_then}
 use Rattle.pos_runs.specs.Pages.{ListPages}
 use Rattle.pos_runs.specs.Lists.{IsPageFault, ListKept}
@@ -52,6 +53,15 @@ two_names read w other_read x s t u v items others a b disk files kept high enou
     let two = made_two s t u v a files in let number = files.second_number in
     (v.number, omega arith, omega arith, kept_name s.base other_read x v others n b disk kept.second second)
 
+-- they are no names of numbers that were not made yet
+two_below : {R S : Type 0} (read : List Bool → R) (w : ℕ) (other_read : List Bool → S) (x : ℕ) (s t : ScratchState) (u v : ListPages) (items : List R) (others : List S) (a b : View) → IsDisk b
+    → t.base ≡ s.base → AreTwoFiles s t u v a → AreKept s.base read w other_read x u v items others b → StandsOn t b → (m : ℕ) → t.made ≤ m → m < 2 ^ 64 → IsNameOfTwo u.file v.file b (scratch_name t.base m) → ⊥
+two_below read w other_read x s t u v items others a b disk base files kept stands m from small named =
+    let (i, low, high, is) = two_names read w other_read x s t u v items others a b disk files kept t.made (omega arith) (scratch_name t.base m) named in
+    let few = stands.few in
+    let same : m ≡ i = scratch_name-same s.base m i small (omega arith) (ap (λ z. scratch_name z m) (sym base) ∙ is) in
+    omega arith
+
 -- what was done after more writes, whatever they answered
 pub way_work : {R S : Type 0} (read : List Bool → R) (w : ℕ) (other_read : List Bool → S) (x : ℕ) (s t : ScratchState) (u u2 v v2 : ListPages) (items : List R) (others : List S) (a b c : View) → IsDisk b
     → IsUnderWay read w other_read x s t u v items others a b → AreListWrites u u2 v v2 b c → IsScratchWork (IsNameBetween s.base s.made (t.made + 1)) Nothing s t a c
@@ -60,7 +70,8 @@ way_work read w other_read x s t u u2 v v2 items others a b c disk way writes =
     work_then (IsNameBetween s.base s.made (t.made + 1)) (IsNameBetween s.base s.made (t.made + 1)) (IsNameOfTwo u.file v.file b) Nothing Nothing (IsOneOfTwo u.file v.file) s t t a b c
     (λ n p. p) (two_names read w other_read x s t u v items others a b disk way.files way.kept (t.made + 1) (omega arith))
     (λ f l p. p) (not_before s t u v a way.files) (λ f l p. absurd p) (omega arith)
-    way.work (work_beside (IsNameOfTwo u.file v.file b) (IsOneOfTwo u.file v.file) t b c writes.frame writes.ids)
+    way.work (work_beside (IsNameOfTwo u.file v.file b) (IsOneOfTwo u.file v.file) t b c writes.frame writes.ids
+    (two_below read w other_read x s t u v items others a b disk way.work.base way.files way.kept))
 
 -- and where they went well
 pub way_then : {R S : Type 0} (read : List Bool → R) (w : ℕ) (other_read : List Bool → S) (x : ℕ) (s t : ScratchState) (u u2 v v2 : ListPages) (items more : List R) (others rest : List S) (a b c : View) → IsDisk b

@@ -72,6 +72,3 @@ one_then s t u one same = omega arith
 
 pub two_made : (s t u : ScratchState) → t.made ≡ s.made + 1 → u.made ≡ t.made + 1 → u.made ≤ s.made + 2
 two_made s t u one two = omega arith
-
-pub most_then : (s t u : ScratchState) → t.made ≡ s.made → u.made ≤ t.made + 2 → u.made ≤ s.made + 2
-most_then s t u same two = omega arith

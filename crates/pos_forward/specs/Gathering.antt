@@ -15,6 +15,7 @@ use Rattle.pos_forward.specs.declared.drafts.Draft.{Draft}
 use Rattle.pos_forward.specs.declared.faults.ForwardFault.{ForwardFault}
 use Rattle.pos_forward.specs.declared.faults.ForwardFault.TheVariants.{TableFull, Work}
 use Rattle.pos_forward.specs.declared.matcher.Matcher.{Matcher}
+use Rattle.pos_forward.specs.SevenTables.{IsOutOfOrder}
 use Rattle.pos_forward.specs.Tables.{AreUnsorted}
 use Rattle.pos_forward.specs.Matched.{IsMatched}
 
@@ -86,4 +87,5 @@ pub record IsGatherAnswer {X R : Type 0} (result : Result X ForwardFault) (k t c
   pub table : (table : ℕ) → IsErrOf result (TableFull table) → table ≡ t
   pub full : (table : ℕ) → IsErrOf result (TableFull table) → (xs : List R) → ListHolds read w s xs old → old.tells ≡ true → HasMorePairs c (map entry xs)
   pub damage : (damage : ScratchDamage) → IsErrOf result (Work (Scratch damage)) → (i least : ℕ) × IsYDamage k entry read w s i least damage old
+  pub range : (damage : ScratchDamage) → IsErrOf result (Work (Scratch damage)) → IsOutOfOrder k s.number (s.number + 1) damage
   pub never : (damage : ScratchDamage) → IsErrOf result (Work (Scratch damage)) → (xs : List R) → ListHolds read w s xs old → old.tells ≡ true → NeverFalls (map entry xs) → ⊥

@@ -1,24 +1,15 @@
--- One table after another: table 1 of an id, and a table made of the rows of the table below, which are given up.
-use Rattle.std.specs.Prelude.{ℕ, ◌+◌, ◌-◌, ◌≡◌, ◌<◌, ◌≤◌, Bool, true, List, length, map, Result, IsErrOf}
-use Rattle.pos_edge.specs.Faults.{Rose}
+-- One table after another: the rows of the table below are read and given up, and the drafts of the next one are made.
+use Rattle.std.specs.Prelude.{ℕ, ◌+◌, ◌-◌, ◌≡◌, ◌≤◌, Bool, true, List, length, map}
 use Rattle.pos_edge.specs.View.{View}
-use Rattle.pos_edge.specs.Frame.{SameFaultsBut}
-use Rattle.pos_edge.specs.Calls.{WasThere}
-use Rattle.pos_edge.specs.ScratchNames.{ScratchState, scratch_name, with_file, without_file, IsLeft, StandsOn}
-use Rattle.pos_edge.specs.declared.scratch.ScratchDamage.{ScratchDamage}
-use Rattle.pos_edge.specs.declared.scratch.WorkFault.TheVariants.{DiskFailed, Exists, Scratch}
+use Rattle.pos_edge.specs.Frame.{Just}
+use Rattle.pos_edge.specs.ScratchNames.{ScratchState, without_file, IsLeft, StandsOn}
+use Rattle.pos_edge.specs.ScratchWork.{HasWorked}
 use Rattle.pos_tuple.specs.declared.entry.Entry.{Entry}
-use Rattle.pos_record.specs.Kinds.{first_read, first_width, value_read, pair_read, pair_width}
-use Rattle.pos_record.specs.declared.kinds.First.{First}
 use Rattle.pos_runs.specs.Pages.{ListPages, ListHolds}
-use Rattle.pos_laws.specs.Making.{NeverFalls}
 use Rattle.pos_forward.specs.declared.drafts.Draft.{Draft}
-use Rattle.pos_forward.specs.declared.faults.ForwardFault.{ForwardFault}
-use Rattle.pos_forward.specs.declared.faults.ForwardFault.TheVariants.{TableFull, Work}
-use Rattle.pos_forward.specs.Tables.{AreFirstRows, IsSortedTable}
-use Rattle.pos_forward.specs.Stored.{first_value, draft_pair_record}
-use Rattle.pos_forward.specs.Storing.{AreKept, AreTwoFiles}
-use Rattle.pos_forward.specs.Gathering.{HasMorePairs}
+use Rattle.pos_forward.specs.declared.gather.Room.{Room}
+use Rattle.pos_forward.specs.Matched.{IsReady}
+use Rattle.pos_forward.specs.Tables.{IsSortedTable}
 
 -- A sealed list that stands, with the file of the scratch name that was made last.
 pub record IsLastList (s : ScratchState) (rows : ListPages) (view : View) : Type 0 where
@@ -27,33 +18,15 @@ pub record IsLastList (s : ScratchState) (rows : ListPages) (view : View) : Type
   pub left : IsLeft s rows.file
   pub last : rows.number + 1 ≡ s.made
 
--- Why table 1 was not made: the disk failed, a name was there, or there was no memory.
-pub record IsFirstAnswer {X : Type 0} (result : Result X ForwardFault) (s u : ScratchState) (old new : View) : Type 0 where
-  pub failed : IsErrOf result (Work DiskFailed) → Rose old.faults new.faults
-  pub quiet : SameFaultsBut (Work DiskFailed) result old new
-  pub exists : (file : ℕ) → IsErrOf result (Work (Exists file)) → (file ≡ u.made) × WasThere (scratch_name s.base file) old
-  pub not_full : (table : ℕ) → IsErrOf result (TableFull table) → ⊥
-  pub no_damage : (damage : ScratchDamage) → IsErrOf result (Work (Scratch damage)) → ⊥
+-- The rows were read and given up: their file is gone, and the `Scratch` has no more of it.
+pub record HasGivenRows (s u : ScratchState) (rows : ListPages) (old new : View) : Type 0 where
+  pub left : u ≡ without_file s rows.file
+  pub worked : HasWorked 0 rows.number (Just rows.file) s u old new
 
--- Table 1 was made: its values and its rows are kept on two new sealed lists.
-pub record AreFirstMade (id : List ℕ) (k : ℕ) (s u : ScratchState) (values rows : ListPages) (old new : View) : Type 0 where
-  pub firsts : List First
-  pub table : AreFirstRows id k firsts
-  pub values_sealed : values.is_sealed ≡ true
-  pub rows_sealed : rows.is_sealed ≡ true
-  pub rows_page : rows.page ≡ rows.written
-  pub files : AreTwoFiles s u values rows old
-  pub kept : AreKept s.base (value_read k) k (first_read k) (first_width k) values rows (map first_value firsts) firsts new
-
--- Why table t was not made of the rows of a list.
-pub record IsNextAnswer {X R : Type 0} (result : Result X ForwardFault) (k t c : ℕ) (entry : R → Entry) (read : List Bool → R) (w : ℕ) (rows : ListPages) (s u : ScratchState) (old new : View) : Type 0 where
-  pub failed : IsErrOf result (Work DiskFailed) → Rose old.faults new.faults
-  pub quiet : SameFaultsBut (Work DiskFailed) result old new
-  pub exists : (file : ℕ) → IsErrOf result (Work (Exists file)) → (file ≡ u.made) × WasThere (scratch_name s.base file) old
-  pub table : (table : ℕ) → IsErrOf result (TableFull table) → table ≡ t
-  pub full : (table : ℕ) → IsErrOf result (TableFull table) → (xs : List R) → ListHolds read w rows xs old → old.tells ≡ true → HasMorePairs c (map entry xs)
-  pub never : (damage : ScratchDamage) → IsErrOf result (Work (Scratch damage)) → (xs : List R) → ListHolds read w rows xs old → old.tells ≡ true → NeverFalls (map entry xs) → ⊥
-  pub range : (damage : ScratchDamage) → IsErrOf result (Work (Scratch damage)) → damage.found < damage.least
+-- what is kept from table to table is ready for the next one
+pub record IsReadyRoom (old new : Room) : Type 0 where
+  pub matcher : IsReady new.matcher
+  pub capacity : new.capacity ≡ old.capacity
 
 -- The drafts of table t in the order of y, made of entries that rise, which are those of the rows where the disk tells.
 pub record AreDrafted {R : Type 0} (k t c : ℕ) (entry : R → Entry) (read : List Bool → R) (w : ℕ) (rows : ListPages) (drafts : List Draft) (old : View) : Type 0 where
@@ -62,25 +35,3 @@ pub record AreDrafted {R : Type 0} (k t c : ℕ) (entry : R → Entry) (read : L
   pub sorted : IsSortedTable k (t - 2) es drafts
   pub same : (xs : List R) → ListHolds read w rows xs old → old.tells ≡ true → es ≡ map entry xs
   pub within : length drafts ≤ c
-
--- The rows were given up, and two new lists have the files of the next two scratch names. A FileId that has ended may be given
--- again.
-pub record AreNextFiles (s u : ScratchState) (rows pairs next : ListPages) (old : View) : Type 0 where
-  pub is : u ≡ with_file (with_file (without_file s rows.file) pairs.file) next.file
-  pub pairs_number : pairs.number ≡ s.made
-  pub next_number : next.number ≡ s.made + 1
-  pub pairs_new : old.is_live pairs.file ≡ true → pairs.file ≡ rows.file
-  pub next_new : old.is_live next.file ≡ true → next.file ≡ rows.file
-
--- Table t was made of entries that rise, which are those of the rows where the disk tells, and is kept on two sealed lists.
-pub record IsNextMade {R S : Type 0} (k t c : ℕ) (entry : R → Entry) (read : List Bool → R) (w : ℕ) (made_of : Draft → S) (next_read : List Bool → S) (x : ℕ) (s u : ScratchState) (rows pairs next : ListPages) (drafts : List Draft) (old new : View) : Type 0 where
-  pub es : List Entry
-  pub count : length es ≡ rows.count
-  pub sorted : IsSortedTable k (t - 2) es drafts
-  pub same : (xs : List R) → ListHolds read w rows xs old → old.tells ≡ true → es ≡ map entry xs
-  pub within : length drafts ≤ c
-  pub pairs_sealed : pairs.is_sealed ≡ true
-  pub next_sealed : next.is_sealed ≡ true
-  pub next_page : next.page ≡ next.written
-  pub files : AreNextFiles s u rows pairs next old
-  pub kept : AreKept s.base (pair_read k) (pair_width k) next_read x pairs next (map draft_pair_record drafts) (map made_of drafts) new

@@ -1,13 +1,11 @@
 -- The tables of a run up to a level, on lists, with the list that the next table is made of; and what a piece of the run that
 -- makes some more of them did. Levels count from 0 to 6: level n is table n + 1.
-use Rattle.std.specs.Prelude.{ℕ, suc, ◌+◌, ◌*◌, ◌-◌, ◌/◌, ◌^◌, ◌<◌, ◌≤◌, ◌≡◌, ◌≢◌, Bool, true, false, List, [], ◌∷◌, ◌++◌, length, map, min, Result, IsErrOf}
-use Rattle.pos_edge.specs.Faults.{Rose}
+use Rattle.std.specs.Prelude.{ℕ, suc, ◌+◌, ◌*◌, ◌-◌, ◌/◌, ◌^◌, ◌<◌, ◌≤◌, ◌≡◌, ◌≢◌, ◌⊎◌, Bool, true, false, List, [], ◌∷◌, ◌++◌, length, map, min, Err}
 use Rattle.pos_edge.specs.View.{View}
-use Rattle.pos_edge.specs.Frame.{SameFaultsBut}
-use Rattle.pos_edge.specs.Calls.{WasThere}
-use Rattle.pos_edge.specs.ScratchNames.{ScratchState, scratch_name, IsLeft}
-use Rattle.pos_edge.specs.declared.scratch.ScratchDamage.{ScratchDamage}
-use Rattle.pos_edge.specs.declared.scratch.WorkFault.TheVariants.{DiskFailed, Exists, Scratch}
+use Rattle.pos_edge.specs.Frame.{Just, Nothing}
+use Rattle.pos_edge.specs.ScratchNames.{ScratchState, IsLeft}
+use Rattle.pos_edge.specs.ScratchWork.{HasEnded, HasWorked}
+use Rattle.pos_edge.specs.declared.scratch.WorkFault.TheVariants.{DiskFailed, Exists, Scratch, Memory}
 use Rattle.pos_tuple.specs.declared.entry.Entry.{Entry}
 use Rattle.pos_record.specs.Kinds.{metadata_number, value_read, pair_read, pair_width}
 use Rattle.pos_record.specs.declared.kinds.Row.{Row}
@@ -21,6 +19,7 @@ use Rattle.pos_forward.specs.declared.faults.ForwardFault.{ForwardFault}
 use Rattle.pos_forward.specs.declared.faults.ForwardFault.TheVariants.{TableFull, Work}
 use Rattle.pos_forward.specs.Drafts.{draft_entry, entry_of_number}
 use Rattle.pos_forward.specs.NextTables.{IsLastList}
+use Rattle.pos_forward.specs.SevenTables.{IsForwardCause, IsOutOfOrder}
 
 -- the entries are those that these rows stand for
 abbrev pub AreEntriesOf : {R : Type 0} → (R → Entry) → List Entry → List R → Type 0
@@ -57,44 +56,53 @@ pub record AreTablesTo {R : Type 0} (id : List ℕ) (k c n : ℕ) (tie : List En
   pub kept : ListKept s.base read w rows xs view
   pub as_long : rows.count ≡ (pages_at lists n).count
   pub tied : tie es xs
+  pub first : (pages_at lists 0).count ≡ 2 ^ k
   pub few : (m : ℕ) → 0 < m → m ≤ n → (pages_at lists m).count ≤ c
   pub made : view.tells ≡ true → AreMade ts id k n × AreNodes ts id k n es × NeverFalls es
+
+-- the FileId is that of one of these lists
+abbrev pub IsFileOf : TablesState → ℕ → Type 0
+IsFileOf lists file = (m : ℕ) × (m < length lists) × (file ≡ (pages_at lists m).file)
 
 -- The tables from level n + 1 to level m were made behind those up to n, whichever these were: their lists, and the last rows.
 -- The rows of level n were given up; a FileId that has ended may be given again.
 pub record HasMoreTables {R S : Type 0} (k c n m : ℕ) (tie : List Entry → List R → Type 0) (read : List Bool → R) (w : ℕ) (next_tie : List Entry → List S → Type 0) (next_read : List Bool → S) (x : ℕ) (s u : ScratchState) (rows : ListPages) (lists : TablesState) (next : ListPages) (old new : View) : Type 0 where
+  pub many : ℕ
+  pub so_many : many + 2 * n ≡ 2 * m
+  pub worked : HasWorked many rows.number (Just rows.file) s u old new
   pub last : IsLastList u next new
   pub holds : (xs : List S) × ListKept u.base next_read x next xs new
   pub few : next.count ≤ c
-  pub made : u.made + 2 * n ≡ s.made + 2 * m
   pub new_file : old.is_live next.file ≡ true → next.file ≡ rows.file
+  pub only : (file : ℕ) → IsLeft u file → ((file ≢ rows.file) × IsLeft s file) ⊎ (IsFileOf lists file ⊎ (file ≡ next.file))
   pub tables : (id : List ℕ) (so_far : TablesState) → AreTablesTo id k c n tie read w s so_far rows old → AreTablesTo id k c m next_tie next_read x u (so_far ++ lists) next new
 
--- Why a table behind those up to level n was not made, whichever these were.
-pub record IsMoreAnswer {X R : Type 0} (result : Result X ForwardFault) (k c n : ℕ) (tie : List Entry → List R → Type 0) (read : List Bool → R) (w : ℕ) (rows : ListPages) (s u : ScratchState) (old new : View) : Type 0 where
-  pub failed : IsErrOf result (Work DiskFailed) → Rose old.faults new.faults
-  pub quiet : SameFaultsBut (Work DiskFailed) result old new
-  pub exists : (file : ℕ) → IsErrOf result (Work (Exists file)) → (file ≡ u.made) × WasThere (scratch_name s.base file) old
-  pub full : (table : ℕ) → IsErrOf result (TableFull table) → (id : List ℕ) (so_far : TablesState) → AreTablesTo id k c n tie read w s so_far rows old → old.tells ≡ true → IsFull id k c table
-  pub never : (damage : ScratchDamage) → IsErrOf result (Work (Scratch damage)) → (id : List ℕ) (so_far : TablesState) → AreTablesTo id k c n tie read w s so_far rows old → old.tells ≡ true → ⊥
-  pub range : (damage : ScratchDamage) → IsErrOf result (Work (Scratch damage)) → damage.found < damage.least
+-- Why a table behind those up to level n was not made, whichever these were, where that is not said of the work.
+abbrev pub IsMoreCause : {R : Type 0} → ℕ → ℕ → ℕ → (List Entry → List R → Type 0) → (List Bool → R) → ℕ → ListPages → ScratchState → ScratchState → View → ForwardFault → Type 0
+IsMoreCause k c n tie read w rows s u old (TableFull table) = (id : List ℕ) (so_far : TablesState) → AreTablesTo id k c n tie read w s so_far rows old → old.tells ≡ true → IsFull id k c table
+IsMoreCause k c n tie read w rows s u old (Work DiskFailed) = Unit {0}
+IsMoreCause k c n tie read w rows s u old (Work (Exists file)) = Unit {0}
+IsMoreCause k c n tie read w rows s u old (Work (Scratch damage)) = IsOutOfOrder k rows.number u.made damage × ((id : List ℕ) (so_far : TablesState) → AreTablesTo id k c n tie read w s so_far rows old → old.tells ≡ true → ⊥)
+IsMoreCause k c n tie read w rows s u old (Work Memory) = Unit {0}
+
+-- A piece of the run behind the tables up to level n, of at most so many new files, ended with a fault.
+pub record IsMoreFault {R : Type 0} (k c n most : ℕ) (tie : List Entry → List R → Type 0) (read : List Bool → R) (w : ℕ) (rows : ListPages) (s u : ScratchState) (old new : View) (fault : ForwardFault) : Type 0 where
+  pub ended : HasEnded {X = Unit {0}} Work most rows.number (Just rows.file) (Err fault) s u old new
+  pub cause : IsMoreCause k c n tie read w rows s u old fault
 
 -- The tables of the id up to level n were made on new files: their lists, and the last rows.
 pub record HasTablesTo {R : Type 0} (id : List ℕ) (k c n : ℕ) (tie : List Entry → List R → Type 0) (read : List Bool → R) (w : ℕ) (s u : ScratchState) (lists : TablesState) (rows : ListPages) (old new : View) : Type 0 where
+  pub worked : HasWorked (2 * suc n) s.made Nothing s u old new
   pub last : IsLastList u rows new
   pub few : rows.count ≤ 2 ^ (k + 1)
-  pub made : u.made ≡ s.made + 2 * suc n
   pub new_file : old.is_live rows.file ≡ false
+  pub only : (file : ℕ) → IsLeft u file → IsLeft s file ⊎ (IsFileOf lists file ⊎ (file ≡ rows.file))
   pub tables : AreTablesTo id k c n tie read w u lists rows new
 
--- Why a table of the id was not made.
-pub record IsTablesAnswer {X : Type 0} (result : Result X ForwardFault) (id : List ℕ) (k c : ℕ) (s u : ScratchState) (old new : View) : Type 0 where
-  pub failed : IsErrOf result (Work DiskFailed) → Rose old.faults new.faults
-  pub quiet : SameFaultsBut (Work DiskFailed) result old new
-  pub exists : (file : ℕ) → IsErrOf result (Work (Exists file)) → (file ≡ u.made) × WasThere (scratch_name s.base file) old
-  pub full : (table : ℕ) → IsErrOf result (TableFull table) → old.tells ≡ true → IsFull id k c table
-  pub never : (damage : ScratchDamage) → IsErrOf result (Work (Scratch damage)) → old.tells ≡ true → ⊥
-  pub range : (damage : ScratchDamage) → IsErrOf result (Work (Scratch damage)) → damage.found < damage.least
+-- The run, of at most so many new files, ended with a fault before a table of the id was made.
+pub record IsTablesFault (id : List ℕ) (k c most : ℕ) (s u : ScratchState) (old new : View) (fault : ForwardFault) : Type 0 where
+  pub ended : HasEnded {X = Unit {0}} Work most s.made Nothing (Err fault) s u old new
+  pub cause : IsForwardCause id k c s u old new fault
 
 -- how many times eight entries are whole in the tables of these lists
 abbrev pub eights_in : TablesState → ℕ

@@ -21,14 +21,13 @@ pub struct Draft {
     pub right: u64,
 }
 
-// A draft in half the room: one with no high metadata, whose places have 32 bits, as every one has of sizes up to 31. A
-// sort moves whole rows, and takes as long as these are large.
+// A draft in half the room: one with no high metadata, whose y has 62 bits at most and whose places have 33, as every one
+// has of sizes up to 32. A sort moves whole rows, and takes as long as these are large.
 #[derive(Clone, Copy)]
 pub(crate) struct ShortDraft {
     pub(crate) low: u128,
-    pub(crate) y: u64,
-    pub(crate) left: u32,
-    pub(crate) right: u32,
+    // y, then the left and the right place: in the order of these numbers y rises.
+    pub(crate) key: u128,
 }
 
 /// The entries of one table while it is gathered. Contracts see their list. It is kept from table to table, so that no
@@ -104,7 +103,8 @@ impl Drafts {
             → IsSortedTable k n es self.new }
     {
         if self.whole.is_empty() {
-            self.short.sort_unstable_by_key(|row: &ShortDraft| row.y);
+            self.short
+                .sort_unstable_by_key(|row: &ShortDraft| (row.key >> 64) as u64);
         } else {
             self.whole.sort_unstable_by_key(|row: &Draft| row.y);
         }
@@ -148,7 +148,7 @@ fn push_whole(rows: &[ShortDraft], whole: &mut Vec<Draft>) -> Result<(), Memory>
 fn is_short(draft: &Draft) -> bool
     ensures { IsTrue result ↔ IsShort draft.now }
 {
-    draft.high == 0 && draft.left <= u32::MAX as u64 && draft.right <= u32::MAX as u64
+    draft.high == 0 && draft.y < 1 << 62 && draft.left < 1 << 33 && draft.right < 1 << 33
 }
 
 // The short form of a draft.
@@ -159,9 +159,7 @@ fn short_of(draft: &Draft) -> ShortDraft
 {
     ShortDraft {
         low: draft.low,
-        y: draft.y,
-        left: draft.left as u32,
-        right: draft.right as u32,
+        key: ((draft.y as u128) << 66) + ((draft.left as u128) << 33) + draft.right as u128,
     }
 }
 
@@ -171,10 +169,10 @@ fn whole_of(row: &ShortDraft) -> Draft
     ensures { result ≡ whole_draft row.now }
 {
     Draft {
-        y: row.y,
+        y: (row.key >> 66) as u64,
         high: 0,
         low: row.low,
-        left: row.left as u64,
-        right: row.right as u64,
+        left: ((row.key >> 33) % (1 << 33)) as u64,
+        right: (row.key % (1 << 33)) as u64,
     }
 }

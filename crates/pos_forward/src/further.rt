@@ -1,15 +1,13 @@
 // Two tables, one behind the other.
-ghost use Rattle.std.specs.Prelude.{◌≡◌, ◌+◌, ◌-◌, ◌<◌, ◌≤◌, ◌^◌, [], ◌∷◌, List, IfOk, OnOk};
+ghost use Rattle.std.specs.Prelude.{◌≡◌, ◌+◌, ◌-◌, ◌<◌, ◌≤◌, ◌^◌, [], ◌∷◌, List, IfErr, IfOk, OnOk};
 ghost use Rattle.pos_edge.specs.Faults.{Rose};
-ghost use Rattle.pos_edge.specs.Frame.{Just};
-ghost use Rattle.pos_edge.specs.ScratchWork.{IsNameBetween, IsScratchWork, IsScratchDone};
 ghost use Rattle.pos_record.specs.Fields.{IsRecordSize};
 ghost use Rattle.pos_runs.specs.Lists.{ListKept};
 ghost use Rattle.pos_forward.specs.declared.drafts.Draft.{Draft};
-ghost use Rattle.pos_forward.specs.Drafts.{draft_entry, IsPairDraft};
+ghost use Rattle.pos_forward.specs.Drafts.{IsPairDraft, draft_entry};
 ghost use Rattle.pos_forward.specs.Matched.{IsReady};
-ghost use Rattle.pos_forward.specs.NextTables.{IsLastList};
-ghost use Rattle.pos_forward.specs.TablesSoFar.{AreDraftedAs, AreEntriesOf, AreListsByEights, HasMoreTables, IsMoreAnswer};
+ghost use Rattle.pos_forward.specs.NextTables.{IsLastList, IsReadyRoom};
+ghost use Rattle.pos_forward.specs.TablesSoFar.{AreDraftedAs, AreEntriesOf, AreListsByEights, HasMoreTables, IsMoreFault};
 
 use crate::gather::Room;
 use crate::kinds::{MadeOf, Stored};
@@ -51,18 +49,12 @@ pub(crate) fn two_tables<
     requires middle_fits { (d : Draft) → IsPairDraft K t (2 ^ (K + 1)) d → M.fits (M.made_of d) }
     requires middle_entry { (d : Draft) → M.entry (M.made_of d) ≡ draft_entry K t d }
     requires fits { (d : Draft) → IsPairDraft K (t + 1) (2 ^ (K + 1)) d → S.fits (S.made_of d) }
-    ensures work { IsScratchWork (IsNameBetween scratch.old.base rows.number (scratch.new.made + 1)) (Just rows.file)
-        scratch.old scratch.new (D.view disk.old) (D.view disk.new) }
-    ensures done { OnOk result (IsScratchDone (IsNameBetween scratch.old.base rows.number scratch.new.made) (Just rows.file)
+    ensures fault { IfErr result (IsMoreFault K room.old.capacity (t - 2) 4 (AreEntriesOf R.entry) R.read R.bit_count rows
         scratch.old scratch.new (D.view disk.old) (D.view disk.new)) }
-    ensures most { scratch.new.made ≤ scratch.old.made + 4 }
-    ensures answer { IsMoreAnswer result K room.old.capacity (t - 2) (AreEntriesOf R.entry) R.read R.bit_count rows
-        scratch.old scratch.new (D.view disk.old) (D.view disk.new) }
     ensures made { IfOk result (λ made. HasMoreTables K room.old.capacity (t - 2) t (AreEntriesOf R.entry) R.read R.bit_count
         (AreDraftedAs K (t + 1) S.made_of) S.read S.bit_count scratch.old scratch.new rows (made.0 ∷ made.1 ∷ []) made.2
         (D.view disk.old) (D.view disk.new)) }
-    ensures ready { OnOk result (IsReady room.new.matcher) }
-    ensures capacity { room.new.capacity ≡ room.old.capacity }
+    ensures room { OnOk result (IsReadyRoom room.old room.new) }
     ensures lanes { IfOk result (λ made. AreListsByEights lanes.old lanes.new (made.0 ∷ made.1 ∷ [])) }
     ensures reads { OnOk result (0 < rows.count → rows.page ≡ rows.written
         → Rose (D.view disk.old).reads (D.view disk.new).reads) }

@@ -1,16 +1,16 @@
 // One table after another: table 1 of the id, and each next one of the rows of the table below.
-ghost use Rattle.std.specs.Prelude.{◌≡◌, ◌+◌, ◌<◌, ◌≤◌, ◌^◌, List, IfOk, OnOk};
+ghost use Rattle.std.specs.Prelude.{◌≡◌, ◌+◌, ◌-◌, ◌<◌, ◌≤◌, ◌^◌, ◌∷◌, [], ℕ, List, IfErr, IfOk, OnOk};
 ghost use Rattle.pos_edge.specs.Faults.{Rose};
-ghost use Rattle.pos_edge.specs.Frame.{Just, Nothing};
-ghost use Rattle.pos_edge.specs.ScratchNames.{without_file};
-ghost use Rattle.pos_edge.specs.ScratchWork.{IsNameBetween, IsScratchWork, IsScratchDone};
+ghost use Rattle.pos_edge.specs.ScratchNames.{StandsOn};
 ghost use Rattle.pos_record.specs.Fields.{IsRecordSize};
+ghost use Rattle.pos_record.specs.Kinds.{first_read, first_width};
 ghost use Rattle.pos_runs.specs.Lists.{ListKept};
 ghost use Rattle.pos_forward.specs.declared.drafts.Draft.{Draft};
-ghost use Rattle.pos_forward.specs.Drafts.{IsPairDraft};
+ghost use Rattle.pos_forward.specs.Drafts.{IsPairDraft, first_row_entry};
 ghost use Rattle.pos_forward.specs.Eights.{CountsEights};
 ghost use Rattle.pos_forward.specs.Matched.{IsReady};
-ghost use Rattle.pos_forward.specs.NextTables.{AreDrafted, AreFirstMade, IsFirstAnswer, IsLastList, IsNextAnswer, IsNextMade};
+ghost use Rattle.pos_forward.specs.NextTables.{AreDrafted, HasGivenRows, IsLastList, IsReadyRoom};
+ghost use Rattle.pos_forward.specs.TablesSoFar.{AreDraftedAs, AreEntriesOf, AreListsByEights, HasMoreTables, HasTablesTo, IsMoreFault, IsTablesFault};
 
 use crate::gather::{Room, gather};
 use crate::kinds::{MadeOf, Stored};
@@ -32,14 +32,12 @@ pub(crate) fn one_table<D: Disk, const K: u32>(
 ) -> Result<(Ordered<Value, K>, Ordered<First, K>), ForwardFault>
     requires size { IsRecordSize K }
     requires files { scratch.old.made + 2 ≤ MAX_SCRATCH_FILES }
-    ensures work { IsScratchWork (IsNameBetween scratch.old.base scratch.old.made (scratch.new.made + 1)) Nothing
-        scratch.old scratch.new (D.view disk.old) (D.view disk.new) }
-    ensures done { OnOk result (IsScratchDone (IsNameBetween scratch.old.base scratch.old.made scratch.new.made) Nothing
-        scratch.old scratch.new (D.view disk.old) (D.view disk.new)) }
-    ensures most { scratch.new.made ≤ scratch.old.made + 2 }
-    ensures answer { IsFirstAnswer result scratch.old scratch.new (D.view disk.old) (D.view disk.new) }
-    ensures made { IfOk result (λ made. AreFirstMade id.now.0 K scratch.old scratch.new made.0 made.1
-        (D.view disk.old) (D.view disk.new)) }
+    requires stands { StandsOn scratch.old (D.view disk.old) }
+    ensures fault { IfErr result (λ fault. (c : ℕ) → IsTablesFault id.now.0 K c 2 scratch.old scratch.new
+        (D.view disk.old) (D.view disk.new) fault) }
+    ensures made { IfOk result (λ made. (c : ℕ) → HasTablesTo id.now.0 K c 0 (AreEntriesOf (first_row_entry K)) (first_read K)
+        (first_width K) scratch.old scratch.new (made.0 ∷ []) made.1 (D.view disk.old) (D.view disk.new)) }
+    ensures fresh { IfOk result (λ made. (0 < made.1.count) × (made.1.page ≡ made.1.written)) }
 {
     let mut rows = Vec::new(alloc);
     if first_table(id, Size::of(K), &mut rows).is_err() {
@@ -72,18 +70,13 @@ pub(crate) fn next_table<D: Disk, R: Stored<K>, S: Record<K> + MadeOf<Draft>, co
     requires ready { IsReady room.old.matcher }
     requires files { scratch.old.made + 2 ≤ MAX_SCRATCH_FILES }
     requires fits { (d : Draft) → IsPairDraft K t (2 ^ (K + 1)) d → S.fits (S.made_of d) }
-    ensures work { IsScratchWork (IsNameBetween scratch.old.base rows.number (scratch.new.made + 1)) (Just rows.file)
-        scratch.old scratch.new (D.view disk.old) (D.view disk.new) }
-    ensures done { OnOk result (IsScratchDone (IsNameBetween scratch.old.base rows.number scratch.new.made) (Just rows.file)
+    ensures fault { IfErr result (IsMoreFault K room.old.capacity (t - 2) 2 (AreEntriesOf R.entry) R.read R.bit_count rows
         scratch.old scratch.new (D.view disk.old) (D.view disk.new)) }
-    ensures most { scratch.new.made ≤ scratch.old.made + 2 }
-    ensures answer { IsNextAnswer result K t room.old.capacity R.entry R.read R.bit_count rows scratch.old scratch.new
-        (D.view disk.old) (D.view disk.new) }
-    ensures made { IfOk result (λ made. IsNextMade K t room.old.capacity R.entry R.read R.bit_count S.made_of S.read S.bit_count
-        scratch.old scratch.new rows made.0 made.1 room.new.drafts (D.view disk.old) (D.view disk.new)) }
-    ensures ready { OnOk result (IsReady room.new.matcher) }
-    ensures capacity { room.new.capacity ≡ room.old.capacity }
-    ensures lanes { OnOk result (CountsEights lanes.old lanes.new room.new.drafts) }
+    ensures made { IfOk result (λ made. HasMoreTables K room.old.capacity (t - 2) (t - 1) (AreEntriesOf R.entry) R.read R.bit_count
+        (AreDraftedAs K t S.made_of) S.read S.bit_count scratch.old scratch.new rows (made.0 ∷ []) made.1
+        (D.view disk.old) (D.view disk.new)) }
+    ensures room { OnOk result (IsReadyRoom room.old room.new) }
+    ensures lanes { IfOk result (λ made. AreListsByEights lanes.old lanes.new (made.0 ∷ [])) }
     ensures reads { OnOk result (0 < rows.count → rows.page ≡ rows.written
         → Rose (D.view disk.old).reads (D.view disk.new).reads) }
 {
@@ -110,18 +103,12 @@ fn make_drafts<D: Disk, R: Stored<K>, const K: u32>(
     requires rows { IsLastList scratch.old rows (D.view disk.old) }
     requires kept { (xs : List _) × ListKept scratch.old.base R.read R.bit_count rows xs (D.view disk.old) }
     requires ready { IsReady room.old.matcher }
-    ensures work { IsScratchWork (IsNameBetween scratch.old.base rows.number scratch.old.made) (Just rows.file)
-        scratch.old scratch.new (D.view disk.old) (D.view disk.new) }
-    ensures done { OnOk result (IsScratchDone (IsNameBetween scratch.old.base rows.number scratch.old.made) (Just rows.file)
+    ensures fault { IfErr result (IsMoreFault K room.old.capacity (t - 2) 2 (AreEntriesOf R.entry) R.read R.bit_count rows
         scratch.old scratch.new (D.view disk.old) (D.view disk.new)) }
-    ensures same { scratch.new.made ≡ scratch.old.made }
-    ensures left { OnOk result (scratch.new ≡ without_file scratch.old rows.file) }
-    ensures answer { IsNextAnswer result K t room.old.capacity R.entry R.read R.bit_count rows scratch.old scratch.new
-        (D.view disk.old) (D.view disk.new) }
+    ensures given { OnOk result (HasGivenRows scratch.old scratch.new rows (D.view disk.old) (D.view disk.new)) }
     ensures drafted { OnOk result (AreDrafted K t room.old.capacity R.entry R.read R.bit_count rows room.new.drafts
         (D.view disk.old)) }
-    ensures ready { OnOk result (IsReady room.new.matcher) }
-    ensures capacity { room.new.capacity ≡ room.old.capacity }
+    ensures room { OnOk result (IsReadyRoom room.old room.new) }
     ensures lanes { OnOk result (CountsEights lanes.old lanes.new room.new.drafts) }
     ensures reads { OnOk result (0 < rows.count → rows.page ≡ rows.written
         → Rose (D.view disk.old).reads (D.view disk.new).reads) }

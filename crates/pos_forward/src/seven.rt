@@ -1,23 +1,17 @@
 // The seven tables, on scratch files.
-ghost use Rattle.std.specs.Prelude.{◌≡◌, ◌+◌, ◌<◌, ◌≤◌, ◌^◌, [], ◌∷◌, ℕ, List, true, IsErrOf, IfOk, OnOk};
-ghost use Rattle.pos_edge.specs.Calls.{WasThere};
+ghost use Rattle.std.specs.Prelude.{◌≡◌, ◌+◌, ◌<◌, ◌≤◌, ◌^◌, [], ◌∷◌, List, IfErr, IfOk, OnOk};
 ghost use Rattle.pos_edge.specs.Faults.{Rose};
-ghost use Rattle.pos_edge.specs.Frame.{Just, Nothing, SameFaultsBut};
-ghost use Rattle.pos_edge.specs.ScratchNames.{scratch_name, IsLeft, StandsOn};
+ghost use Rattle.pos_edge.specs.Frame.{Nothing, SameFaultsBut};
+ghost use Rattle.pos_edge.specs.ScratchNames.{StandsOn};
 ghost use Rattle.pos_edge.specs.ScratchWork.{IsNameBetween, IsScratchWork, IsScratchDone};
-ghost use Rattle.pos_edge.specs.declared.scratch.ScratchDamage.{ScratchDamage};
-ghost use Rattle.pos_lists.specs.TableLists.{TableLists};
 ghost use Rattle.pos_record.specs.Fields.{IsRecordSize};
 ghost use Rattle.pos_record.specs.Kinds.{middle_width, number_read, number_width, row_read};
 ghost use Rattle.pos_runs.specs.Lists.{ListKept};
-ghost use Rattle.pos_runs.specs.Runs.{IsTablesFile, TablesStand, pages_at};
-ghost use Rattle.pos_laws.specs.Making.{IsAbove, IsFull};
-ghost use Rattle.pos_laws.specs.Tables.{Describes};
 ghost use Rattle.pos_forward.specs.Matched.{IsReady};
-ghost use Rattle.pos_forward.specs.NextTables.{IsLastList};
-ghost use Rattle.pos_forward.specs.SevenTables.{AreByEights};
+ghost use Rattle.pos_forward.specs.NextTables.{IsLastList, IsReadyRoom};
+ghost use Rattle.pos_forward.specs.SevenTables.{AreByEights, AreSevenTables, IsForwardCause};
 ghost use Rattle.pos_forward.specs.Stored.{draft_number};
-ghost use Rattle.pos_forward.specs.TablesSoFar.{AreDraftedAs, AreEntriesOf, AreListsByEights, HasMoreTables, HasTablesTo, IsMoreAnswer, IsTablesAnswer, row_entry};
+ghost use Rattle.pos_forward.specs.TablesSoFar.{AreDraftedAs, AreEntriesOf, AreListsByEights, HasMoreTables, HasTablesTo, IsMoreFault, IsTablesFault, row_entry};
 
 use crate::further::two_tables;
 use crate::gather::Room;
@@ -31,8 +25,8 @@ use pos_tuple::Id;
 use std::alloc::Global;
 
 /// The seven tables of an id: table 1 has the values, each later one the matching pairs of places of the table below, all in
-/// the order of y, and the last list the y of table 7. They stand on sealed lists in scratch files of their own, of at most
-/// 40 that are made; the others are removed.
+/// the order of y, and the last list the y of table 7. They stand on sealed lists in eight scratch files of their own; 14 are
+/// made, and the others are removed.
 ///
 /// `TableFull` comes where a table from 2 to 7 would have more entries than the plan's capacity, and names the first such
 /// table. `DiskFailed`, `Exists` and `Memory` are those of the work on scratch files; `Scratch` comes only of a disk that
@@ -54,22 +48,10 @@ pub fn forward<D: Disk, const K: u32>(
         scratch.old scratch.new (D.view disk.old) (D.view disk.new) }
     ensures done { OnOk result (IsScratchDone (IsNameBetween scratch.old.base scratch.old.made scratch.new.made) Nothing
         scratch.old scratch.new (D.view disk.old) (D.view disk.new)) }
-    ensures tables { IfOk result (λ tables. (ts : TableLists) × TablesStand K tables ts (D.view disk.new)
-        × ((D.view disk.new).tells ≡ true → Describes ts id.now.0 K)) }
-    ensures left { IfOk result (λ tables. (file : ℕ) → IsTablesFile tables file → IsLeft scratch.new file) }
-    ensures within { IfOk result (λ tables. (n : ℕ) → 0 < n → n ≤ 6 → (pages_at tables n).count ≤ plan.now) }
-    ensures none_above { OnOk result ((D.view disk.old).tells ≡ true → (n : ℕ) → 0 < n → n ≤ 6
-        → IsAbove id.now.0 K n plan.now → ⊥) }
-    ensures full { (table : ℕ) → IsErrOf result (ForwardFault.TableFull table) → (D.view disk.old).tells ≡ true
-        → IsFull id.now.0 K plan.now table }
-    ensures exists { (file : ℕ) → IsErrOf result (ForwardFault.Work (WorkFault.Exists file))
-        → (file ≡ scratch.new.made) × WasThere (scratch_name scratch.old.base file) (D.view disk.old) }
-    ensures never { (damage : ScratchDamage) → IsErrOf result (ForwardFault.Work (WorkFault.Scratch damage))
-        → (D.view disk.old).tells ≡ true → ⊥ }
-    ensures range { (damage : ScratchDamage) → IsErrOf result (ForwardFault.Work (WorkFault.Scratch damage))
-        → damage.found < damage.least }
-    ensures failed { IsErrOf result (ForwardFault.Work WorkFault.DiskFailed)
-        → Rose (D.view disk.old).faults (D.view disk.new).faults }
+    ensures made { IfOk result (λ tables. AreSevenTables id.now.0 K plan.now scratch.old scratch.new tables
+        (D.view disk.old) (D.view disk.new)) }
+    ensures cause { IfErr result (IsForwardCause id.now.0 K plan.now scratch.old scratch.new
+        (D.view disk.old) (D.view disk.new)) }
     ensures quiet { SameFaultsBut (ForwardFault.Work WorkFault.DiskFailed) result (D.view disk.old) (D.view disk.new) }
     ensures reads { OnOk result (Rose (D.view disk.old).reads (D.view disk.new).reads) }
     ensures lanes { IfOk result (λ tables. AreByEights lanes.old lanes.new tables) }
@@ -114,12 +96,8 @@ fn all_lists<D: Disk, const K: u32>(
     requires ready { IsReady room.old.matcher }
     requires space { scratch.old.made ≤ 9960 }
     requires stands { StandsOn scratch.old (D.view disk.old) }
-    ensures work { IsScratchWork (IsNameBetween scratch.old.base scratch.old.made (scratch.new.made + 1)) Nothing
-        scratch.old scratch.new (D.view disk.old) (D.view disk.new) }
-    ensures done { OnOk result (IsScratchDone (IsNameBetween scratch.old.base scratch.old.made scratch.new.made) Nothing
-        scratch.old scratch.new (D.view disk.old) (D.view disk.new)) }
-    ensures answer { IsTablesAnswer result id.now.0 K room.old.capacity scratch.old scratch.new
-        (D.view disk.old) (D.view disk.new) }
+    ensures fault { IfErr result (IsTablesFault id.now.0 K room.old.capacity 14 scratch.old scratch.new
+        (D.view disk.old) (D.view disk.new)) }
     ensures made { IfOk result (λ made. HasTablesTo id.now.0 K room.old.capacity 6 (AreDraftedAs K 7 draft_number)
         (number_read K) (number_width K) scratch.old scratch.new
         (made.0 ∷ made.1 ∷ made.2 ∷ made.3 ∷ made.4 ∷ made.5 ∷ made.6 ∷ []) made.7 (D.view disk.old) (D.view disk.new)) }
@@ -154,18 +132,12 @@ fn lower<D: Disk, const K: u32>(
     requires ready { IsReady room.old.matcher }
     requires space { scratch.old.made ≤ 9960 }
     requires stands { StandsOn scratch.old (D.view disk.old) }
-    ensures work { IsScratchWork (IsNameBetween scratch.old.base scratch.old.made (scratch.new.made + 1)) Nothing
-        scratch.old scratch.new (D.view disk.old) (D.view disk.new) }
-    ensures done { OnOk result (IsScratchDone (IsNameBetween scratch.old.base scratch.old.made scratch.new.made) Nothing
-        scratch.old scratch.new (D.view disk.old) (D.view disk.new)) }
-    ensures most { scratch.new.made ≤ scratch.old.made + 6 }
-    ensures answer { IsTablesAnswer result id.now.0 K room.old.capacity scratch.old scratch.new
-        (D.view disk.old) (D.view disk.new) }
+    ensures fault { IfErr result (IsTablesFault id.now.0 K room.old.capacity 6 scratch.old scratch.new
+        (D.view disk.old) (D.view disk.new)) }
     ensures made { IfOk result (λ made. HasTablesTo id.now.0 K room.old.capacity 2 (AreEntriesOf (row_entry K 3))
         (row_read K 3) (middle_width K 3) scratch.old scratch.new (made.0 ∷ made.1 ∷ made.2 ∷ []) made.3
         (D.view disk.old) (D.view disk.new)) }
-    ensures ready { OnOk result (IsReady room.new.matcher) }
-    ensures capacity { room.new.capacity ≡ room.old.capacity }
+    ensures room { OnOk result (IsReadyRoom room.old room.new) }
     ensures lanes { IfOk result (λ made. AreListsByEights lanes.old lanes.new (made.1 ∷ made.2 ∷ [])) }
     ensures reads { OnOk result (Rose (D.view disk.old).reads (D.view disk.new).reads) }
 {
@@ -202,13 +174,8 @@ fn upper<D: Disk, const K: u32>(
     requires capacity { room.old.capacity ≤ 2 ^ (K + 1) }
     requires ready { IsReady room.old.matcher }
     requires files { scratch.old.made + 8 ≤ MAX_SCRATCH_FILES }
-    ensures work { IsScratchWork (IsNameBetween scratch.old.base rows.entry.number (scratch.new.made + 1)) (Just rows.entry.file)
-        scratch.old scratch.new (D.view disk.old) (D.view disk.new) }
-    ensures done { OnOk result (IsScratchDone (IsNameBetween scratch.old.base rows.entry.number scratch.new.made)
-        (Just rows.entry.file) scratch.old scratch.new (D.view disk.old) (D.view disk.new)) }
-    ensures most { scratch.new.made ≤ scratch.old.made + 8 }
-    ensures answer { IsMoreAnswer result K room.old.capacity 2 (AreEntriesOf (row_entry K 3)) (row_read K 3) (middle_width K 3)
-        rows.entry scratch.old scratch.new (D.view disk.old) (D.view disk.new) }
+    ensures fault { IfErr result (IsMoreFault K room.old.capacity 2 8 (AreEntriesOf (row_entry K 3)) (row_read K 3)
+        (middle_width K 3) rows.entry scratch.old scratch.new (D.view disk.old) (D.view disk.new)) }
     ensures made { IfOk result (λ made. HasMoreTables K room.old.capacity 2 6 (AreEntriesOf (row_entry K 3))
         (row_read K 3) (middle_width K 3) (AreDraftedAs K 7 draft_number) (number_read K) (number_width K)
         scratch.old scratch.new rows.entry (made.0 ∷ made.1 ∷ made.2 ∷ made.3 ∷ []) made.4

@@ -61,7 +61,7 @@ marks_new k n upper t u m s s' ts above a b few made h given inside used =
       sealed = made.sealed;
       places = made.places ∙ sym (entries_count k t ts a n (omega arith) h);
       left = subst (λ (x : ScratchState). IsLeft x (marks_file m)) (sym made.scratch) (left_last s (marks_file m));
-      marks = (got.0, got.1, λ tells. let told : a.tells ≡ true = sym made.done.kept.tells ∙ tells in got.2 told (inside told) (used told));
+      marks = (got.0, got.1, λ tells. let told : a.tells ≡ true = sym made.worked.done.kept.tells ∙ tells in got.2 told (inside told) (used told));
     }
 
 -- all places of level 6 are used

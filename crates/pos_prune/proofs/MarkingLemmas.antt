@@ -1,24 +1,25 @@
 -- The making of one level's marks: a new set, a pass, and its seal, past the files that were there.
-use Rattle.std.proofs.Common.{◌≡◌, ℕ, suc, ◌+◌, ◌<◌, ◌≤◌, Bool, true, List, [], ◌∷◌, length, refl, sym, ap, ◌∙◌, subst, inl, inr, arith, get_or}
+use Rattle.std.proofs.Common.{◌≡◌, ℕ, suc, ◌+◌, ◌<◌, ◌≤◌, Bool, true, List, [], ◌∷◌, length, Result, Ok, Err, refl, sym, ap, ◌∙◌, subst, inl, inr, arith, get_or}
+use Rattle.std.specs.Prelude.{IsErrAnd, IsErrOf}
 use Rattle.std.proofs.lemmas.Bool.{cases_Bool, false≢true}
 use Rattle.std.proofs.lemmas.List.{get_or_append_left, get_or_push, length_push}
 use Rattle.std.proofs.lemmas.Option.{none-some, same_Some}
 use Rattle.pos_edge.specs.Faults.{Rose}
 use Rattle.pos_edge.specs.View.{View, IsDisk}
-use Rattle.pos_edge.specs.Frame.{ChangesFile, ChangesOnly, Just, KeepsIds, NameOf, Nothing, ReadsOnly, SameFaults}
-use Rattle.pos_edge.specs.Calls.{IsCreated, WasThere}
+use Rattle.pos_edge.specs.Frame.{ChangesFile, ChangesOnly, IsUntouched, Just, KeepsIds, NameOf, Nothing, ReadsOnly, SameFaults}
+use Rattle.pos_edge.specs.Calls.{IsCreated, IsHalfCreated, WasThere}
 use Rattle.pos_edge.specs.FileSets.{IsOutside}
 use Rattle.pos_edge.specs.ScratchNames.{IsLeft, ScratchState, StandsOn, next_name, scratch_name, with_file}
-use Rattle.pos_edge.specs.ScratchWork.{IsNameBetween, IsScratchDone}
+use Rattle.pos_edge.specs.ScratchWork.{HasWorked, IsNameBetween, IsScratchDone, IsScratchWork}
 use Rattle.pos_edge.specs.declared.scratch.ScratchDamage.{ScratchDamage}
 use Rattle.pos_edge.specs.declared.scratch.ScratchFile.{ScratchFile}
 use Rattle.pos_edge.specs.declared.scratch.WorkFault.{WorkFault}
-use Rattle.pos_edge.specs.declared.scratch.WorkFault.TheVariants.{DiskFailed, Exists, Scratch}
+use Rattle.pos_edge.specs.declared.scratch.WorkFault.TheVariants.{DiskFailed, Exists, Memory, Scratch}
 use Rattle.pos_edge.proofs.FaultLemmas.{Rose-since}
 use Rattle.pos_edge.proofs.FileSetLemmas.{left_name, left_together}
 use Rattle.pos_edge.proofs.Frames.{frame_then, frame_wider}
 use Rattle.pos_edge.proofs.ScratchFiles.{scratch_name-same}
-use Rattle.pos_edge.proofs.ScratchWorkLemmas.{done_beside, done_then, name_is_there, next_between, work_beside, work_then}
+use Rattle.pos_edge.proofs.ScratchWorkLemmas.{done_beside, done_then, ended_turned, name_is_there, next_between, refused_untouched, work_then, work_written}
 use Rattle.pos_lists.specs.Places.{no_place}
 use Rattle.pos_lists.specs.TableLists.{TableLists, entries}
 use Rattle.pos_lists.specs.Used.{NamedBelow}
@@ -26,19 +27,37 @@ use Rattle.pos_lists.proofs.NamedLemmas.{nothing_is_named}
 use Rattle.pos_lists.proofs.UsedLemmas.{marked_by_the_next_table}
 use Rattle.pos_marks.specs.declared.set.Marks.{Marks}
 use Rattle.pos_marks.specs.Marks.{AreNewMarks, AreSealed, Marked, SameMarks, marks_file}
+use Rattle.pos_marks.specs.Pages.{IsSealFault}
 use Rattle.pos_marks.proofs.MarkLemmas.{marked_beside}
+use Rattle.pos_marks.proofs.PageLemmas.{ids_then}
 use Rattle.pos_runs.specs.Runs.{IsTablesFile, TablesStand, TablesState, pages_at}
 use Rattle.pos_runs.proofs.ListLemmas.{new-done, new-refused, new-work}
 use Rattle.pos_runs.proofs.TablesLemmas.{tables-outside}
-use Rattle.pos_prune.specs.Marking.{AreMarksMade, IsMarkFault, IsMarking}
+use Rattle.pos_prune.specs.Marking.{AreMarksMade, IsMarkAnswer}
 use Rattle.pos_prune.specs.Passes.{HasAsked, HasMarked, IsPassFault}
 use Rattle.pos_prune.proofs.PassLemmas.{entries_count}
+
+-- ---- an error that is handed on
+
+the_fault : {X : Type 0} (e f : WorkFault) → IsErrOf {T = X} (Err e) f → e ≡ f
+the_fault e f is = cc
+
+pub handed_on : {X Y : Type 0} (k c most : ℕ) (t : TablesState) (r : Result Y WorkFault) (fault : WorkFault) (s s' : ScratchState) (a b : View) → IsErrAnd r (λ y. y ≡ fault) → c ≤ most
+    → IsMarkAnswer {X = X} k c t (Err fault) s s' a b → IsMarkAnswer {X = Y} k most t r s s' a b
+handed_on k c most t (Ok x) fault s s' a b is within h = absurd is
+handed_on {X} {Y} k c most t (Err e) fault s s' a b is within h =
+    let same : fault ≡ e = sym is in
+    subst (λ (y : WorkFault). IsMarkAnswer {X = Y} k most t (Err y) s s' a b) same (record {
+      ended = ended_turned {X = X} {Y = Y} (λ (y : WorkFault). y) c most s.made Nothing fault s s' a b within h.ended;
+      damage = λ d e. h.damage d (ap (λ (y : WorkFault). Err y) (the_fault {X = Y} fault (Scratch d) e));
+      never = λ d ts e. h.never d ts (ap (λ (y : WorkFault). Err y) (the_fault {X = Y} fault (Scratch d) e));
+    })
 
 -- ---- files that are left beside one that is made
 
 -- the name of a file that is left has a number below those to come
-pub left_below : (s : ScratchState) (file : ℕ) (n : List ℕ) (v : View) → IsDisk v → StandsOn s v → IsLeft s file → NameOf file v n → (m : ℕ) × (m < s.made) × (n ≡ scratch_name s.base m)
-left_below s file n v disk stands left named =
+pub left_number : (s : ScratchState) (file : ℕ) (n : List ℕ) (v : View) → IsDisk v → StandsOn s v → IsLeft s file → NameOf file v n → (m : ℕ) × (m < s.made) × (n ≡ scratch_name s.base m)
+left_number s file n v disk stands left named =
     let among = left_name s file n v disk stands left named in
     let below : (get_or s.left among.0 among.1).number < s.made = stands.below among.0 among.1 among.2 in
     (among.1.number, subst (λ (y : ScratchFile). y.number < s.made) among.3 below, among.4)
@@ -46,7 +65,7 @@ left_below s file n v disk stands left named =
 -- so no file that is made from now on has its name
 pub left_not_new : (s : ScratchState) (high file : ℕ) (n : List ℕ) (v : View) → IsDisk v → StandsOn s v → high ≤ 10001 → IsLeft s file → NameOf file v n → IsNameBetween s.base s.made high n → ⊥
 left_not_new s high file n v disk stands few left named (k, from, to, is) =
-    let old = left_below s file n v disk stands left named in
+    let old = left_number s file n v disk stands left named in
     let small = old.1 in
     let same : old.0 ≡ k = scratch_name-same s.base old.0 k (omega arith) (omega arith) (sym old.2 ∙ is) in
     omega arith
@@ -103,34 +122,36 @@ made_frame file b c d reads wrote =
 pub reads_frame : (file : ℕ) (b c : View) → ReadsOnly b c → ChangesOnly (NameOf file b) (Just file) b c
 reads_frame file b c reads = frame_wider (NameOf file b) Nothing (Just file) Nothing b c (λ n x. absurd x) (λ f l x. absurd x) reads.kept
 
--- every answer once the file was made
-pub marking_made : (s t : ScratchState) (file : ℕ) (a b d : View) → IsDisk b → t ≡ with_file s file → ChangesOnly (Just (next_name s)) Nothing a b → IsCreated (next_name s) file a b → (StandsOn s a → StandsOn t b)
-    → ChangesOnly (NameOf file b) (Just file) b d → KeepsIds Nothing b d → IsMarking 1 s t a d
-marking_made s t file a b d disk is kept new stands later ids =
+-- what was done once the file was made, and written or only read
+made_work : (s t : ScratchState) (file : ℕ) (a b d : View) → IsDisk b → t ≡ with_file s file → ChangesOnly (Just (next_name s)) Nothing a b → IsCreated (next_name s) file a b → (StandsOn s a → StandsOn t b)
+    → ChangesOnly (NameOf file b) (Just file) b d → KeepsIds Nothing b d → IsScratchWork (IsNameBetween s.base s.made (t.made + 1)) Nothing s t a d
+made_work s t file a b d disk is kept new stands later ids =
     let made : t.made ≡ s.made + 1 = ap (λ (x : ScratchState). x.made) is in
-    record {
-      work = work_then (IsNameBetween s.base s.made (t.made + 1)) (IsNameBetween s.base s.made (t.made + 1)) (NameOf file b) Nothing Nothing (Just file) s t t a b d
-          (λ n x. x) (λ n x. (s.made, omega arith, omega arith, made_name s file n a b disk new x))
-          (λ f l x. x) (λ f l x. false≢true (sym new.fresh ∙ subst (λ (y : ℕ). a.is_live y ≡ true) x l)) (λ f l x. absurd x) (omega arith)
-          (new-work s t file a b is kept new stands) (work_beside (NameOf file b) (Just file) t b d later ids);
-      few = omega arith;
-    }
-
-pub marking_refused : (s t : ScratchState) (a b : View) → t ≡ s → ChangesOnly (Just (next_name s)) Nothing a b → (StandsOn s a → StandsOn t b) → IsMarking 1 s t a b
-marking_refused s t a b is kept stands =
-    let made : t.made ≡ s.made = ap (λ (x : ScratchState). x.made) is in
-    record { work = new-refused s t a b is kept stands; few = omega arith }
+    let left : IsLeft t file = subst (λ (x : ScratchState). IsLeft x file) (sym is) (left_last s file) in
+    work_then (IsNameBetween s.base s.made (t.made + 1)) (IsNameBetween s.base s.made (t.made + 1)) (NameOf file b) Nothing Nothing (Just file) s t t a b d
+    (λ n x. x) (λ n x. (s.made, omega arith, omega arith, made_name s file n a b disk new x))
+    (λ f l x. x) (λ f l x. false≢true (sym new.fresh ∙ subst (λ (y : ℕ). a.is_live y ≡ true) x l)) (λ f l x. absurd x) (omega arith)
+    (new-work s t file a b is kept new stands) (work_written t file b d disk left later ids)
 
 -- and where all went well
-marking_done : (s t : ScratchState) (file : ℕ) (a b d : View) → IsDisk b → s.made < 10000 → t ≡ with_file s file → ChangesOnly (Just (next_name s)) Nothing a b → IsCreated (next_name s) file a b
+made_done : (s t : ScratchState) (file : ℕ) (a b d : View) → IsDisk b → s.made < 10000 → t ≡ with_file s file → ChangesOnly (Just (next_name s)) Nothing a b → IsCreated (next_name s) file a b
     → ChangesOnly (NameOf file b) (Just file) b d → IsScratchDone (IsNameBetween s.base s.made t.made) Nothing s t a d
-marking_done s t file a b d disk few is kept new later =
+made_done s t file a b d disk few is kept new later =
     let made : t.made ≡ s.made + 1 = ap (λ (x : ScratchState). x.made) is in
     let base : t.base ≡ s.base = ap (λ (x : ScratchState). x.base) is in
     done_then (IsNameBetween s.base s.made t.made) (IsNameBetween s.base s.made t.made) (NameOf file b) Nothing Nothing (Just file) s t t a b d
     (λ n x. x) (λ n x. (s.made, omega arith, omega arith, made_name s file n a b disk new x))
     (λ f l x. x) (λ f l x. false≢true (sym new.fresh ∙ subst (λ (y : ℕ). a.is_live y ≡ true) x l)) base (λ m from to. absurd (omega arith))
     (new-done s t file a b is few kept new) (done_beside (NameOf file b) (Just file) t b d later (λ n named. name_is_there file n b disk named))
+
+made_worked : (s t : ScratchState) (file : ℕ) (a b d : View) → IsDisk b → s.made < 10000 → t ≡ with_file s file → ChangesOnly (Just (next_name s)) Nothing a b → IsCreated (next_name s) file a b → (StandsOn s a → StandsOn t b)
+    → ChangesOnly (NameOf file b) (Just file) b d → KeepsIds Nothing b d → SameFaults a d → HasWorked 1 s.made Nothing s t a d
+made_worked s t file a b d disk few is kept new stands later ids quiet = record {
+  work = made_work s t file a b d disk is kept new stands later ids;
+  done = made_done s t file a b d disk few is kept new later;
+  made = ap (λ (x : ScratchState). x.made) is;
+  quiet = quiet;
+}
 
 -- ---- tables and marks past the making
 
@@ -149,18 +170,17 @@ marks_made m p s a b disk stands few left kept h =
 
 pub level_made : (k n : ℕ) (upper later : TableLists → (ℕ → Bool) → Type 0) (t u : TablesState) (m0 m1 m2 : Marks) (count : ℕ) (s s' : ScratchState) (a b c d : View)
     → n < 6 → s.made < 10000 → IsDisk a → IsDisk b → StandsOn s a → ((file : ℕ) → IsTablesFile t file → IsLeft s file) → count ≡ (pages_at t n).count
-    → ChangesOnly (Just (next_name s)) Nothing a b → IsCreated (next_name s) (marks_file m0) a b → s' ≡ with_file s (marks_file m0) → AreNewMarks count s.made m0 b → SameFaults a b
+    → ChangesOnly (Just (next_name s)) Nothing a b → IsCreated (next_name s) (marks_file m0) a b → s' ≡ with_file s (marks_file m0) → (StandsOn s a → StandsOn s' b) → AreNewMarks count s.made m0 b → SameFaults a b
     → ((ts : TableLists) (x : ℕ → Bool) → upper ts x → later ts x) → HasMarked k n 0 (pages_at t (suc n)).count later t u m0 m1 b c
     → ChangesFile (marks_file m1) c d → KeepsIds Nothing c d → SameMarks m1 m2 → AreSealed m2 → ((p : ℕ → Bool) → Marked m1 p c → Marked m2 p d) → SameFaults c d
     → AreMarksMade k n upper t u m2 s s' a d
-level_made k n upper later t u m0 m1 m2 count s s' a b c d few room disk_a disk_b stands left counted kept new is fresh quiet0 turn passed wrote ids same sealed seals quiet1 =
+level_made k n upper later t u m0 m1 m2 count s s' a b c d few room disk_a disk_b stands left counted kept new is standing fresh quiet0 turn passed wrote ids same sealed seals quiet1 =
     let file : marks_file m2 ≡ marks_file m0 = same.file ∙ passed.same.file in
     let own : marks_file m1 ≡ marks_file m0 = passed.same.file in
     let wrote0 : ChangesFile (marks_file m0) c d = subst (λ (f : ℕ). ChangesFile f c d) own wrote in
     record {
       scratch = is ∙ ap (with_file s) (sym file);
-      done = marking_done s s' (marks_file m0) a b d disk_b room is kept new (made_frame (marks_file m0) b c d passed.only wrote0);
-      quiet = quiet1 ∙ passed.quiet ∙ quiet0;
+      worked = made_worked s s' (marks_file m0) a b d disk_b room is kept new standing (made_frame (marks_file m0) b c d passed.only wrote0) (ids_then b c d passed.only.ids ids) (quiet1 ∙ passed.quiet ∙ quiet0);
       lists = passed.lists;
       stands = λ ts h.
           tables-outside k u ts (NameOf (marks_file m0) c) (Just (marks_file m0)) c d wrote0.frame
@@ -196,24 +216,62 @@ above_asked m0 m1 file s a b c d disk_a disk_b stands room left kept new asked r
 -- ---- why a level was not made
 
 -- its file was not
-pub fault_new : (k : ℕ) (t : TablesState) (fault : WorkFault) (s s' : ScratchState) (a b : View) → s' ≡ s
-    → ((file : ℕ) → fault ≡ Exists file → (file ≡ s.made) × WasThere (next_name s) a) → (fault ≡ DiskFailed → Rose a.faults b.faults) → ((fault ≡ DiskFailed → ⊥) → SameFaults a b)
-    → ((d : ScratchDamage) → fault ≡ Scratch d → ⊥) → IsMarkFault k t fault s s' a b
-fault_new k t fault s s' a b is exists failed quiet none = record {
-  exists = λ file e. let w = exists file e in (w.0 ∙ sym (ap (λ (x : ScratchState). x.made) is), subst (λ (m : ℕ). WasThere (scratch_name s.base m) a) (sym w.0) w.1);
-  failed = failed;
-  quiet = quiet;
-  damage = λ d e. absurd (none d e);
-  never = λ d ts e h tells inside. none d e;
-}
+pub answer_new : {X Y : Type 0} (k : ℕ) (t : TablesState) (r : Result Y WorkFault) (fault : WorkFault) (s s' : ScratchState) (a b : View) → IsErrAnd r (λ y. y ≡ fault) → s' ≡ s
+    → ChangesOnly (Just (next_name s)) Nothing a b → (StandsOn s a → StandsOn s' b)
+    → ((file : ℕ) → IsErrOf {T = X} (Err fault) (Exists file) → (file ≡ s.made) × WasThere (next_name s) a × IsUntouched a b) → (IsErrOf {T = X} (Err fault) DiskFailed → IsHalfCreated (next_name s) a b)
+    → ((d : ScratchDamage) → IsErrOf {T = X} (Err fault) (Scratch d) → ⊥) → (IsErrOf {T = X} (Err fault) Memory → IsUntouched a b) → ((fault ≡ DiskFailed → ⊥) → SameFaults a b)
+    → IsMarkAnswer k 1 t r s s' a b
+answer_new {X} {Y} k t r fault s s' a b err is kept stands exists failed none memory quiet =
+    handed_on k 1 1 t r fault s s' a b err (omega arith) (record {
+      ended = record {
+        work = new-refused s s' a b is kept stands (refused_untouched {X = X} (Err fault) s a b exists failed none memory);
+        few = let made : s'.made ≡ s.made = ap (λ (x : ScratchState). x.made) is in omega arith;
+        exists = λ file e. let w = exists file e in (w.0 ∙ sym (ap (λ (x : ScratchState). x.made) is), subst (λ (m : ℕ). WasThere (scratch_name s.base m) a) (sym w.0) w.1);
+        failed = λ e. (failed e).rose;
+        quiet = quiet;
+      };
+      damage = λ d e. absurd (none d e);
+      never = λ d ts e h tells inside. none d e;
+    })
 
 -- the pass over its pairs ended early
-pub fault_pass : (k n : ℕ) (t : TablesState) (fault : WorkFault) (s s' : ScratchState) (a b c : View) → n < 6 → a.faults ≤ b.faults → b.tells ≡ a.tells → SameFaults a b
-    → ((ts : TableLists) → TablesStand k t ts a → TablesStand k t ts b) → IsPassFault k n t fault b c → IsMarkFault k t fault s s' a c
-fault_pass k n t fault s s' a b c few later told quiet stands h = record {
-  exists = λ file e. absurd (h.no_file file e);
-  failed = λ e. Rose-since a.faults b.faults c.faults later (h.failed e);
-  quiet = λ other. h.quiet other ∙ quiet;
-  damage = λ d e. (n, few, h.damage d e);
-  never = λ d ts e before tells inside. h.never d ts e (stands ts before) (told ∙ tells) inside;
-}
+pub answer_pass : {Y : Type 0} (k n : ℕ) (t : TablesState) (r : Result Y WorkFault) (fault : WorkFault) (s s' : ScratchState) (file : ℕ) (a b c : View) → IsErrAnd r (λ y. y ≡ fault) → n < 6 → IsDisk b → s' ≡ with_file s file
+    → ChangesOnly (Just (next_name s)) Nothing a b → IsCreated (next_name s) file a b → (StandsOn s a → StandsOn s' b) → SameFaults a b
+    → ((ts : TableLists) → TablesStand k t ts a → TablesStand k t ts b) → IsPassFault k n t fault b c → IsMarkAnswer k 1 t r s s' a c
+answer_pass {Y} k n t r fault s s' file a b c err few disk is kept new standing quiet stands h =
+    handed_on {X = Y} k 1 1 t r fault s s' a c err (omega arith) (record {
+      ended = record {
+        work = made_work s s' file a b c disk is kept new standing (reads_frame file b c h.only) h.only.ids;
+        few = let made : s'.made ≡ s.made + 1 = ap (λ (x : ScratchState). x.made) is in omega arith;
+        exists = λ number e. absurd (h.no_file number (the_fault fault (Exists number) e));
+        failed = λ e. Rose-since a.faults b.faults c.faults kept.faults (h.failed (the_fault fault DiskFailed e));
+        quiet = λ other. h.quiet other ∙ quiet;
+      };
+      damage = λ d e. (n, few, h.damage d (the_fault fault (Scratch d) e));
+      never = λ d ts e before tells inside. h.never d ts (the_fault fault (Scratch d) e) (stands ts before) (kept.tells ∙ tells) inside;
+    })
+
+-- its marks were not sealed
+pub answer_seal : {Y : Type 0} (k n : ℕ) (upper : TableLists → (ℕ → Bool) → Type 0) (t u : TablesState) (r : Result Y WorkFault) (fault : WorkFault) (m0 m1 : Marks) (s s' : ScratchState) (a b c d : View) → IsErrAnd r (λ y. y ≡ fault)
+    → IsDisk b → s' ≡ with_file s (marks_file m0) → ChangesOnly (Just (next_name s)) Nothing a b → IsCreated (next_name s) (marks_file m0) a b → (StandsOn s a → StandsOn s' b) → SameFaults a b
+    → HasMarked k n 0 (pages_at t (suc n)).count upper t u m0 m1 b c → ChangesFile (marks_file m1) c d → KeepsIds Nothing c d
+    → IsSealFault fault → (fault ≡ DiskFailed → Rose c.faults d.faults) → ((fault ≡ DiskFailed → ⊥) → SameFaults c d) → IsMarkAnswer k 1 t r s s' a d
+answer_seal {Y} k n upper t u r fault m0 m1 s s' a b c d err disk is kept new standing quiet passed wrote ids known failed quiet1 =
+    let own : marks_file m1 ≡ marks_file m0 = passed.same.file in
+    handed_on {X = Y} k 1 1 t r fault s s' a d err (omega arith) (record {
+      ended = record {
+        work = made_work s s' (marks_file m0) a b d disk is kept new standing (made_frame (marks_file m0) b c d passed.only (subst (λ (f : ℕ). ChangesFile f c d) own wrote)) (ids_then b c d passed.only.ids ids);
+        few = let made : s'.made ≡ s.made + 1 = ap (λ (x : ScratchState). x.made) is in omega arith;
+        exists = λ number e. absurd (no_file fault number known (the_fault fault (Exists number) e));
+        failed = λ e. Rose-since a.faults c.faults d.faults (let first = kept.faults in let second = passed.only.kept.faults in omega arith) (failed (the_fault fault DiskFailed e));
+        quiet = λ other. quiet1 other ∙ passed.quiet ∙ quiet;
+      };
+      damage = λ x e. absurd (no_damage fault x known (the_fault fault (Scratch x) e));
+      never = λ x ts e before tells inside. no_damage fault x known (the_fault fault (Scratch x) e);
+    })
+  where
+    no_file : (e : WorkFault) (number : ℕ) → IsSealFault e → e ≡ Exists number → ⊥
+    no_file e number seal is = subst IsSealFault is seal
+
+    no_damage : (e : WorkFault) (x : ScratchDamage) → IsSealFault e → e ≡ Scratch x → ⊥
+    no_damage e x seal is = subst IsSealFault is seal

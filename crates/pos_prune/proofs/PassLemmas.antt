@@ -4,7 +4,6 @@ use Rattle.std.specs.Prelude.{IfErr, IsErrAnd, slice_get, slice_set}
 use Rattle.std.proofs.lemmas.Bool.{cases_eq}
 use Rattle.std.proofs.lemmas.List.{length-map}
 use Rattle.std.proofs.lemmas.Option.{get_or_from_slice_get}
-use Rattle.pos_edge.specs.Faults.{Rose}
 use Rattle.pos_edge.specs.View.{View}
 use Rattle.pos_edge.specs.Frame.{ReadsOnly, Nothing, SameFaults}
 use Rattle.pos_edge.specs.declared.scratch.ScratchDamage.{ScratchDamage}

@@ -1,14 +1,12 @@
 -- What the making of a level's marks did, and of several levels' after one another. Levels count from 0 to 6.
-use Rattle.std.specs.Prelude.{ℕ, suc, ◌+◌, ◌≡◌, ◌<◌, ◌≤◌, Bool, true}
-use Rattle.pos_edge.specs.Faults.{Rose}
+use Rattle.std.specs.Prelude.{ℕ, suc, ◌≡◌, ◌<◌, Bool, true, Result, IsErrOf}
 use Rattle.pos_edge.specs.View.{View}
-use Rattle.pos_edge.specs.Frame.{Nothing, SameFaults}
-use Rattle.pos_edge.specs.Calls.{WasThere}
-use Rattle.pos_edge.specs.ScratchNames.{IsLeft, ScratchState, StandsOn, scratch_name, with_file}
-use Rattle.pos_edge.specs.ScratchWork.{IsNameBetween, IsScratchDone, IsScratchWork}
+use Rattle.pos_edge.specs.Frame.{Nothing}
+use Rattle.pos_edge.specs.ScratchNames.{IsLeft, ScratchState, StandsOn, with_file}
+use Rattle.pos_edge.specs.ScratchWork.{HasEnded, HasWorked}
 use Rattle.pos_edge.specs.declared.scratch.ScratchDamage.{ScratchDamage}
 use Rattle.pos_edge.specs.declared.scratch.WorkFault.{WorkFault}
-use Rattle.pos_edge.specs.declared.scratch.WorkFault.TheVariants.{DiskFailed, Exists, Scratch}
+use Rattle.pos_edge.specs.declared.scratch.WorkFault.TheVariants.{Scratch}
 use Rattle.pos_lists.specs.TableLists.{TableLists, PairsInside}
 use Rattle.pos_lists.specs.Used.{MarksUsed}
 use Rattle.pos_marks.specs.declared.set.Marks.{Marks}
@@ -17,16 +15,10 @@ use Rattle.pos_runs.specs.Runs.{IsTablesFile, TablesState, TablesStand, pages_at
 use Rattle.pos_prune.specs.KeptTables.{KeptStand, MarksStand}
 use Rattle.pos_prune.specs.Passes.{IsPairDamage, SameLists}
 
--- whatever the making of c levels' marks answered
-pub record IsMarking (c : ℕ) (s t : ScratchState) (old new : View) : Type 0 where
-  pub work : IsScratchWork (IsNameBetween s.base s.made (t.made + 1)) Nothing s t old new
-  pub few : t.made ≤ s.made + c
-
 -- One level's marks were made: level n of these tables, by a test of the level above.
 pub record AreMarksMade (k n : ℕ) (upper : TableLists → (ℕ → Bool) → Type 0) (t u : TablesState) (m : Marks) (s s' : ScratchState) (old new : View) : Type 0 where
   pub scratch : s' ≡ with_file s (marks_file m)
-  pub done : IsScratchDone (IsNameBetween s.base s.made s'.made) Nothing s s' old new
-  pub quiet : SameFaults old new
+  pub worked : HasWorked 1 s.made Nothing s s' old new
   pub lists : SameLists t u
   pub stands : (ts : TableLists) → TablesStand k t ts old → TablesStand k u ts new
   pub sealed : AreSealed m
@@ -34,20 +26,16 @@ pub record AreMarksMade (k n : ℕ) (upper : TableLists → (ℕ → Bool) → T
   pub marks : (ts : TableLists) (above : ℕ → Bool) → TablesStand k t ts old → upper ts above →
       (p : ℕ → Bool) × Marked m p new × (old.tells ≡ true → PairsInside ts 6 → MarksUsed ts (suc n) above → MarksUsed ts n p)
 
--- Why the marks of some levels were not made.
-pub record IsMarkFault (k : ℕ) (t : TablesState) (fault : WorkFault) (s s' : ScratchState) (old new : View) : Type 0 where
-  pub exists : (file : ℕ) → fault ≡ Exists file → (file ≡ s'.made) × WasThere (scratch_name s.base file) old
-  pub failed : fault ≡ DiskFailed → Rose old.faults new.faults
-  pub quiet : (fault ≡ DiskFailed → ⊥) → SameFaults old new
-  pub damage : (d : ScratchDamage) → fault ≡ Scratch d → (n : ℕ) × (n < 6) × IsPairDamage t n d
-  pub never : (d : ScratchDamage) (ts : TableLists) → fault ≡ Scratch d → TablesStand k t ts old → old.tells ≡ true → PairsInside ts 6 → ⊥
+-- What the making of up to c levels' marks answered, each by a file. Damage is of a pair that points outside, and over a disk that
+-- tells no tables have it whose pairs point inside.
+pub record IsMarkAnswer {X : Type 0} (k c : ℕ) (t : TablesState) (result : Result X WorkFault) (s s' : ScratchState) (old new : View) : Type 0 where
+  pub ended : HasEnded (λ fault. fault) c s.made Nothing result s s' old new
+  pub damage : (d : ScratchDamage) → IsErrOf result (Scratch d) → (n : ℕ) × (n < 6) × IsPairDamage t n d
+  pub never : (d : ScratchDamage) (ts : TableLists) → IsErrOf result (Scratch d) → TablesStand k t ts old → old.tells ≡ true → PairsInside ts 6 → ⊥
 
 -- The marks of c levels were made, and all stands for the next.
 pub record AreLevelsMade (k c : ℕ) (t u : TablesState) (s s' : ScratchState) (old new : View) : Type 0 where
-  pub work : IsScratchWork (IsNameBetween s.base s.made (s'.made + 1)) Nothing s s' old new
-  pub done : IsScratchDone (IsNameBetween s.base s.made s'.made) Nothing s s' old new
-  pub made : s'.made ≡ s.made + c
-  pub quiet : SameFaults old new
+  pub worked : HasWorked c s.made Nothing s s' old new
   pub lists : SameLists t u
   pub stands : (ts : TableLists) → TablesStand k t ts old → TablesStand k u ts new
   pub files : StandsOn s' new
@@ -73,7 +61,6 @@ pub record AreLowerMade (k : ℕ) (t u : TablesState) (above asked m2 m3 : Marks
 
 -- The marks of levels 5 to 1 were made: the tables have their lists, and all stand for what was kept.
 pub record AreMarksKept (k : ℕ) (t u : TablesState) (m2 m3 m4 m5 m6 : Marks) (s s' : ScratchState) (old new : View) : Type 0 where
-  pub done : IsScratchDone (IsNameBetween s.base s.made s'.made) Nothing s s' old new
-  pub quiet : SameFaults old new
+  pub worked : HasWorked 5 s.made Nothing s s' old new
   pub lists : SameLists t u
   pub kept : (ts : TableLists) → TablesStand k t ts old → (old.tells ≡ true → PairsInside ts 6) → KeptStand k s' u m2 m3 m4 m5 m6 ts new

@@ -14,6 +14,8 @@ pub(crate) fn place_damage(
     ensures none { IsNone result ↔ ((pair.0 < limit) × (pair.1 < limit)) }
     ensures record_at { IfSome result (λ damage. (damage.file ≡ file) × (damage.at ≡ at)) }
     ensures range { IfSome result (λ damage. (damage.least ≡ 0) × (damage.limit ≡ limit) × (limit ≤ damage.found)) }
+    ensures left { IfSome result (λ damage. limit ≤ pair.0 → damage.found ≡ pair.0) }
+    ensures right { IfSome result (λ damage. pair.0 < limit → damage.found ≡ pair.1) }
 {
     let (left, right) = pair;
     if left < limit && right < limit {

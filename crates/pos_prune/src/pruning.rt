@@ -1,5 +1,5 @@
 // The kept places of all tables.
-ghost use Rattle.std.specs.Prelude.{◌≡◌, ◌+◌, ◌<◌, ◌≤◌, ℕ, Bool, true, IfErr, IfOk, IsErrOf, OnOk};
+ghost use Rattle.std.specs.Prelude.{◌≡◌, ◌+◌, ◌<◌, ◌≤◌, ℕ, true, IfOk, IsErrOf, OnOk};
 ghost use Rattle.pos_edge.specs.Faults.{Rose};
 ghost use Rattle.pos_edge.specs.Frame.{Nothing, SameFaultsBut};
 ghost use Rattle.pos_edge.specs.Calls.{WasThere};
@@ -9,7 +9,7 @@ ghost use Rattle.pos_lists.specs.TableLists.{TableLists, PairsInside};
 ghost use Rattle.pos_record.specs.Fields.{IsRecordSize};
 ghost use Rattle.pos_runs.specs.Runs.{IsTablesFile, TablesStand, pages_at};
 ghost use Rattle.pos_prune.specs.KeptTables.{KeptStand, MarksStand};
-ghost use Rattle.pos_prune.specs.Marking.{AreLowerMade, AreMarksKept, AreUpperMade, IsMarkFault, IsMarking};
+ghost use Rattle.pos_prune.specs.Marking.{AreLowerMade, AreMarksKept, AreUpperMade, IsMarkAnswer};
 ghost use Rattle.pos_prune.specs.Passes.{IsPairDamage};
 
 use crate::Kept;
@@ -20,7 +20,7 @@ use pos_runs::Tables;
 use std::alloc::Global;
 
 /// Finds of each of the tables 2 to 6 the places that an entry of table 7 reaches. Reads each list of pairs once, in order, and
-/// makes five scratch files.
+/// makes five scratch files, whatever it answers no more. A file of others under a scratch name is left as it is.
 ///
 /// The tables' lists stand, and their files are scratch files that are left; the `Scratch` has made at most 9,960. `Exists`
 /// where the name of a file that was to be made is there; `Scratch` where a pair points outside of the table below, which
@@ -42,6 +42,8 @@ pub fn prune<D: Disk, const K: u32>(
         scratch.old scratch.new (D.view disk.old) (D.view disk.new) }
     ensures done { OnOk result (IsScratchDone (IsNameBetween scratch.old.base scratch.old.made scratch.new.made) Nothing
         scratch.old scratch.new (D.view disk.old) (D.view disk.new)) }
+    ensures most { scratch.new.made ≤ scratch.old.made + 5 }
+    ensures made { OnOk result (scratch.new.made ≡ scratch.old.made + 5) }
     ensures kept { IfOk result (λ kept. (ts : TableLists) → TablesStand K tables.entry ts (D.view disk.old)
         → ((D.view disk.old).tells ≡ true → PairsInside ts 6)
         → KeptStand K scratch.new kept.tables kept.m2 kept.m3 kept.m4 kept.m5 kept.m6 ts (D.view disk.new)) }
@@ -69,10 +71,9 @@ fn kept_levels<D: Disk, const K: u32>(
     requires left { (file : ℕ) → IsTablesFile tables file → IsLeft scratch.old file }
     requires stands { (ts : TableLists) × TablesStand K tables ts (D.view disk.old)
         × ((D.view disk.old).tells ≡ true → PairsInside ts 6) }
-    ensures marking { IsMarking 5 scratch.old scratch.new (D.view disk.old) (D.view disk.new) }
+    ensures answer { IsMarkAnswer K 5 tables.entry result scratch.old scratch.new (D.view disk.old) (D.view disk.new) }
     ensures made { IfOk result (λ kept. AreMarksKept K tables.entry kept.tables kept.m2 kept.m3 kept.m4 kept.m5 kept.m6
         scratch.old scratch.new (D.view disk.old) (D.view disk.new)) }
-    ensures fault { IfErr result (λ fault. IsMarkFault K tables.entry fault scratch.old scratch.new (D.view disk.old) (D.view disk.new)) }
 {
     let mut tables = tables;
     let upper = upper_levels(alloc, &mut tables, scratch, disk)?;
@@ -118,10 +119,9 @@ fn upper_levels<D: Disk, const K: u32>(
     requires left { (file : ℕ) → IsTablesFile tables.old file → IsLeft scratch.old file }
     requires stands { (ts : TableLists) × TablesStand K tables.old ts (D.view disk.old)
         × ((D.view disk.old).tells ≡ true → PairsInside ts 6) }
-    ensures marking { IsMarking 3 scratch.old scratch.new (D.view disk.old) (D.view disk.new) }
+    ensures answer { IsMarkAnswer K 3 tables.old result scratch.old scratch.new (D.view disk.old) (D.view disk.new) }
     ensures made { IfOk result (λ upper. AreUpperMade K tables.old tables.new upper.m4 upper.m5 upper.m6
         scratch.old scratch.new (D.view disk.old) (D.view disk.new)) }
-    ensures fault { IfErr result (λ fault. IsMarkFault K tables.old fault scratch.old scratch.new (D.view disk.old) (D.view disk.new)) }
 {
     let mut m6 = marks_of_six(alloc, tables, scratch, disk)?;
     let mut m5 = marks_below(alloc, tables, 4, &mut m6, scratch, disk)?;
@@ -143,10 +143,9 @@ fn lower_levels<D: Disk, const K: u32>(
     requires left { (file : ℕ) → IsTablesFile tables.old file → IsLeft scratch.old file }
     requires stands { (ts : TableLists) × TablesStand K tables.old ts (D.view disk.old)
         × ((D.view disk.old).tells ≡ true → PairsInside ts 6) × MarksStand scratch.old above.old 3 ts (D.view disk.old) }
-    ensures marking { IsMarking 2 scratch.old scratch.new (D.view disk.old) (D.view disk.new) }
+    ensures answer { IsMarkAnswer K 2 tables.old result scratch.old scratch.new (D.view disk.old) (D.view disk.new) }
     ensures made { IfOk result (λ lower. AreLowerMade K tables.old tables.new above.old above.new lower.m2 lower.m3
         scratch.old scratch.new (D.view disk.old) (D.view disk.new)) }
-    ensures fault { IfErr result (λ fault. IsMarkFault K tables.old fault scratch.old scratch.new (D.view disk.old) (D.view disk.new)) }
 {
     let mut m3 = marks_below(alloc, tables, 2, above, scratch, disk)?;
     let m2 = marks_below(alloc, tables, 1, &mut m3, scratch, disk)?;

@@ -11,7 +11,6 @@ use Rattle.pos_edge.specs.Frame.{SameFaults}
 use Rattle.pos_lists.specs.Rank.{first_in, second_in}
 use Rattle.pos_laws.specs.Renumbering.{firsts}
 use Rattle.pos_laws.proofs.Ranks.{length-firsts, at-firsts}
-use Rattle.pos_layout.specs.Layouts.{own}
 use Rattle.pos_layout.specs.Images.{IsShut}
 use Rattle.pos_layout.specs.Drafts.{Draft, WriterState, Stands, draft_bytes, added}
 use Rattle.pos_layout.specs.Writing.{Works, WritesOnly, IsStanding, Goes, MayAdd, SameFile, OneMore, with_numbers}
@@ -37,10 +36,10 @@ pub record AddedSoFar (size i least : ℕ) (xs : List (ℕ × ℕ)) (before afte
 pub added_none : (size : ℕ) (xs : List (ℕ × ℕ)) (w : WriterState) (v : View) → IsStanding w v → HasEmptyTable size w → AddedSoFar size 0 0 xs w w v v
 added_none size xs w v standing empty = record {
   standing = standing;
-  goes = λ p s. subst (λ (d : Draft). Stands own w d v) (sym (with_numbers-none p)) s;
-  writes = writes_none w.file (draft_bytes own standing.0 standing.1.parks) v standing.1.keeps.file;
+  goes = λ p s. subst (λ (d : Draft). Stands w d v) (sym (with_numbers-none p)) s;
+  writes = writes_none w.file (draft_bytes standing.0 standing.1.parks) v standing.1.keeps.file;
   faults = refl;
-  same = record { file = refl; size = refl };
+  same = record { file = refl; layout = refl; size = refl };
   columns = refl;
   size_is = empty.size_is;
   tables = empty.tables;
@@ -83,10 +82,10 @@ added_next x size i least xs before between after old mid new l was above works 
           let step = goes (with_numbers (take i (firsts xs)) p) (was.goes p s) in
           let same : added (first_in xs i) (with_numbers (take i (firsts xs)) p) ≡ with_numbers (take (i + 1) (firsts xs)) p =
           with_numbers-append (take i (firsts xs)) (first_in xs i ∷ []) p ∙ ap (λ ns. with_numbers ns p) (sym more) in
-          subst (λ (d : Draft). Stands own after d new) same step;
+          subst (λ (d : Draft). Stands after d new) same step;
       writes = writes_then before.file old mid new live was.writes only;
       faults = works.quiet ∙ was.faults;
-      same = record { file = same.file ∙ file; size = same.size ∙ was.same.size };
+      same = record { file = same.file ∙ file; layout = same.layout ∙ was.same.layout; size = same.size ∙ was.same.size };
       columns = columns ∙ was.columns;
       size_is = same.size ∙ was.size_is;
       tables = subst (λ (cs : List _). length cs < 7) (sym columns) was.tables;
@@ -119,7 +118,7 @@ added_all size least i xs before after old new end was = (
       omega arith,
   λ p s.
       let whole : take i (firsts xs) ≡ firsts xs = ap (λ n. take n (firsts xs)) (end ∙ sym (length-firsts xs)) ∙ take-length (firsts xs) in
-      subst (λ (ns : List ℕ). Stands own after (with_numbers ns p) new) whole (was.goes p s),
+      subst (λ (ns : List ℕ). Stands after (with_numbers ns p) new) whole (was.goes p s),
 )
 
 -- the points of sorted entries never fall

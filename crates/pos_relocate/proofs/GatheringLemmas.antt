@@ -1,7 +1,7 @@
 -- Work that only reads, and the tables through it.
-use Rattle.std.proofs.Common.{◌≡◌, ℕ, suc, ◌+◌, ◌<◌, Bool, true, false, List, [], ◌∷◌, ◌++◌, length, map, get_or, Result, Ok, Err, refl, sym, ap, ◌∙◌, subst, inl, inr, arith, get_or-set_same, get_or-set_other}
-use Rattle.std.specs.Prelude.{IsErrOf, slice_set}
-use Rattle.std.proofs.lemmas.Bool.{cases_eq, cases_lt}
+use Rattle.std.proofs.Common.{◌≡◌, ℕ, suc, ◌+◌, ◌<◌, Bool, true, false, List, [], ◌∷◌, ◌++◌, length, map, get_or, Result, Ok, Err, refl, sym, ap, ◌∙◌, subst, inl, inr, arith}
+use Rattle.std.specs.Prelude.{IsErrOf}
+use Rattle.std.proofs.lemmas.Bool.{cases_lt}
 use Rattle.std.proofs.lemmas.List.{get_or_default, map-append}
 use Rattle.std.proofs.Math.ListN.{get_or-append}
 use Rattle.std.proofs.Math.Seq.{get_or-append_seam}
@@ -14,19 +14,15 @@ use Rattle.pos_edge.specs.Faults.{Rose}
 use Rattle.pos_edge.specs.Frame.{ReadsOnly, SameFaults, Nothing}
 use Rattle.pos_edge.proofs.FaultLemmas.{Rose-since, faults_then}
 use Rattle.pos_edge.proofs.Frames.{frame_none, frame_then}
-use Rattle.pos_lists.specs.TableLists.{TableLists}
 use Rattle.pos_lists.specs.Numbering.{AreGathered}
 use Rattle.pos_lists.proofs.NumberingLemmas.{a_place_is_gathered, a_place_is_passed_over}
 use Rattle.pos_marks.proofs.MarkLemmas.{marked_reads}
-use Rattle.pos_runs.specs.Lists.{IsListRead}
-use Rattle.pos_runs.specs.Pages.{ListPages}
-use Rattle.pos_runs.specs.Runs.{TablesState, TablesStand, pages_at, no_pages}
-use Rattle.pos_runs.proofs.TablesLemmas.{tables-read}
+use Rattle.pos_runs.specs.Runs.{SameTables, TablesState}
 use Rattle.pos_relocate.specs.declared.chosen.Chosen.{Chosen}
 use Rattle.pos_relocate.specs.declared.chosen.Chosen.TheVariants.{Each, Those}
 use Rattle.pos_relocate.specs.Passes.{AreListed, IsOutOfRange}
 use Rattle.pos_relocate.specs.Choosing.{Chooses}
-use Rattle.pos_relocate.specs.Gathering.{CanPoint, IsPointing, SameTables}
+use Rattle.pos_relocate.specs.Gathering.{CanPoint, IsPointing}
 use Rattle.pos_relocate.proofs.PassLemmas.{ok_no_fault}
 
 -- ---- reads one after another
@@ -121,51 +117,6 @@ pub lost_no_damage : {X : Type 0} (r : Result X WorkFault) (y e : WorkFault) (d 
 lost_no_damage r y e d is same failed damaged = cc
 
 -- ---- the tables
-
-pub same_none : (k : ℕ) (t : TablesState) (v : View) → SameTables k t t v v
-same_none k t v = record { stand = λ ts h. h; counts = λ n. refl; files = λ n. refl; numbers = λ n. refl }
-
-pub same_then : (k : ℕ) (s t u : TablesState) (a b c : View) → SameTables k s t a b → SameTables k t u b c → SameTables k s u a c
-same_then k s t u a b c p q = record {
-  stand = λ ts h. q.stand ts (p.stand ts h);
-  counts = λ n. q.counts n ∙ p.counts n;
-  files = λ n. q.files n ∙ p.files n;
-  numbers = λ n. q.numbers n ∙ p.numbers n;
-}
-
--- while other files are read
-pub same_beside : (k : ℕ) (t : TablesState) (a b : View) → ReadsOnly a b → SameTables k t t a b
-same_beside k t a b only = record { stand = λ ts h. tables-read k t ts a b only h; counts = λ n. refl; files = λ n. refl; numbers = λ n. refl }
-
--- what holds of a list that was put in the place of another, and of the others
-at_list : {Y : Type 0} (f : ListPages → Y) (t : TablesState) (s : ListPages) (n m : ℕ) → n < length t → f s ≡ f (pages_at t n) → f (pages_at (slice_set t n s) m) ≡ f (pages_at t m)
-at_list f t s n m inside same = elim (cases_eq m n) [
-  | inl is ↦ ap (λ j. f (pages_at (slice_set t n s) j)) is ∙ ap f (get_or-set_same t n s no_pages inside) ∙ same ∙ sym (ap (λ j. f (pages_at t j)) is)
-  | inr other ↦ ap f (get_or-set_other t n m s no_pages other)
-]
-
--- after one of the lists was read
-pub same_read : (k : ℕ) (t new : TablesState) (n : ℕ) (a b : View) → n < length t → new ≡ slice_set t n (pages_at new n) → IsListRead (pages_at t n) (pages_at new n) a b
-    → ((ts : TableLists) → TablesStand k t ts a → TablesStand k new ts b) → SameTables k t new a b
-same_read k t new n a b inside is read stand =
-    let s = pages_at new n in record {
-      stand = stand;
-      counts = λ m. ap (λ (x : TablesState). (pages_at x m).count) is ∙ at_list (λ x. x.count) t s n m inside read.count;
-      files = λ m. ap (λ (x : TablesState). (pages_at x m).file) is ∙ at_list (λ x. x.file) t s n m inside read.same.file;
-      numbers = λ m. ap (λ (x : TablesState). (pages_at x m).number) is ∙ at_list (λ x. x.number) t s n m inside read.same.number;
-    }
-
--- entries get points as before while other files are read
-pub can_beside : (k t limit bound : ℕ) (below : List ℕ) (tables : TablesState) (a b : View) → ReadsOnly a b → CanPoint k t limit bound below tables a → CanPoint k t limit bound below tables b
-can_beside k t limit bound below tables a b only h = record {
-  size = h.size;
-  first = h.first;
-  last = h.last;
-  stands = (h.stands.0, tables-read k tables h.stands.0 a b only h.stands.1);
-  below_limit = h.below_limit;
-  limited = h.limited;
-  exact = h.exact;
-}
 
 -- and in the same tables
 pub can_same : (k t limit bound : ℕ) (below : List ℕ) (before after : TablesState) (a b : View) → SameTables k before after a b → CanPoint k t limit bound below before a → CanPoint k t limit bound below after b

@@ -13,12 +13,13 @@ use Rattle.pos_lists.specs.Sound.{IsSound}
 use Rattle.pos_lists.specs.Numbering.{AreGathered}
 use Rattle.pos_lists.proofs.NumberingLemmas.{nothing_is_gathered}
 use Rattle.pos_laws.specs.Renumbering.{last_at}
-use Rattle.pos_runs.specs.Runs.{TablesState, TablesStand, pages_at}
+use Rattle.pos_runs.specs.Runs.{SameTables, TablesState, TablesStand, pages_at}
+use Rattle.pos_runs.proofs.TablesLemmas.{same_none, same_then}
 use Rattle.pos_relocate.specs.Passes.{AreListed, IsOutOfRange}
-use Rattle.pos_relocate.proofs.GatheringLemmas.{gathered_pushed, listed_none, listed_pushed, reads_none, reads_then, same_none, same_then}
+use Rattle.pos_relocate.proofs.GatheringLemmas.{gathered_pushed, listed_none, listed_pushed, reads_none, reads_then}
 use Rattle.pos_relocate.proofs.ValuesLemmas.{entries_count}
 use Rattle.pos_lists.specs.PlotLists.{last_number}
-use Rattle.pos_relocate.specs.Gathering.{CanNumber, IsLastAbove, SameTables}
+use Rattle.pos_relocate.specs.Gathering.{CanNumber, IsLastAbove}
 
 -- an f7 before a place
 number_below : (k f place : ℕ) → f < 2 ^ k → place < 2 ^ (k + 1) → last_number k f place < 2 ^ (2 * k + 1)
@@ -153,3 +154,12 @@ module _ (k bound i : ℕ) (places : List ℕ) (xs : List (ℕ × ℕ)) (old now
         gathered_pushed pair (λ j. true) (last_at ts k (slice_index places)) i olds news entry grown refl point at
         (subst (λ (ys : List (ℕ × ℕ)). AreGathered (λ j. true) (last_at ts k (slice_index places)) i ys) is (was.gathered ts stands told sound));
   }
+
+-- numbers of table 7 have at most 101 bits
+pub number_wide : (k bound : ℕ) (places : List ℕ) (tables : TablesState) (v : View) → CanNumber k bound places tables v → CanNumber k (2 ^ 128) places tables v
+number_wide k bound places tables v h = record {
+  size = h.size;
+  stands = h.stands;
+  places_below = h.places_below;
+  exact = let most = h.size.1 in let wide : 2 * k + 1 ≤ 128 = omega arith in pow_mono wide;
+}

@@ -13,7 +13,6 @@ use Rattle.pos_lists.specs.Numbering.{AreGathered}
 use Rattle.pos_laws.specs.Renumbering.{firsts, last_at, IsLastTable, IsOneToOne}
 use Rattle.pos_laws.proofs.Apart.{last_numbers_differ}
 use Rattle.pos_laws.proofs.Ranks.{length-firsts, at-firsts, firsts_rise}
-use Rattle.pos_layout.specs.Layouts.{own}
 use Rattle.pos_layout.specs.Drafts.{WriterState, draft_bytes}
 use Rattle.pos_layout.specs.Writing.{IsStanding, WritesOnly}
 use Rattle.pos_layout.proofs.WorksLemmas.{stands_beside}
@@ -27,11 +26,11 @@ use Rattle.pos_relocate.proofs.ValuesLemmas.{entries_count}
 -- ---- a writer while other files are read
 
 pub standing_reads : (w : WriterState) (a b : View) → ReadsOnly a b → IsStanding w a → IsStanding w b
-standing_reads w a b only s = (s.0, stands_beside own w s.0 Nothing Nothing a b only.kept (λ x. x) (λ n is x. x) s.1)
+standing_reads w a b only s = (s.0, stands_beside w s.0 Nothing Nothing a b only.kept (λ x. x) (λ n is x. x) s.1)
 
 -- nothing is written to its file
 pub standing_kept : (w : WriterState) (a b : View) → ReadsOnly a b → IsStanding w a → WritesOnly w.file a b
-standing_kept w a b only s = reads_write w.file (draft_bytes own s.0 s.1.parks) a b only s.1.keeps.file
+standing_kept w a b only s = reads_write w.file (draft_bytes s.0 s.1.parks) a b only s.1.keeps.file
 
 -- work that only reads is a pass
 pub gathering_pass : {X : Type 0} (w : WriterState) (r : Result X WorkFault) (a b : View) → IsStanding w a → IsPointing r a b → IsPass w.file r a b

@@ -12,16 +12,15 @@ use Rattle.pos_laws.specs.Renumbering.{firsts, point_at, IsRenumbered, IsOneToOn
 use Rattle.pos_laws.proofs.Ranks.{length-firsts, at-firsts}
 use Rattle.pos_laws.proofs.Gathered.{gathered_is_renumbered}
 use Rattle.pos_layout.specs.Drafts.{WriterState}
-use Rattle.pos_layout.specs.Layouts.{own}
 use Rattle.pos_layout.specs.Writing.{WritesOnly}
 use Rattle.pos_layout.proofs.WorksLemmas.{stands_beside}
 use Rattle.pos_edge.specs.Frame.{ReadsOnly}
-use Rattle.pos_runs.specs.Runs.{TablesState, TablesStand, IsTablesFile, pages_at}
+use Rattle.pos_runs.specs.Runs.{SameTables, TablesState, TablesStand, IsTablesFile, pages_at}
 use Rattle.pos_runs.proofs.TablesLemmas.{tables-outside}
 use Rattle.pos_relocate.specs.declared.chosen.Chosen.{Chosen}
 use Rattle.pos_relocate.specs.Passes.{AreListed, AreShuffled, IsRepetition, IsTableAdded}
 use Rattle.pos_relocate.specs.Choosing.{Chooses}
-use Rattle.pos_relocate.specs.Gathering.{CanPoint, SameTables}
+use Rattle.pos_relocate.specs.Gathering.{CanPoint, HavePoints}
 use Rattle.pos_relocate.specs.Levels.{IsLevelAdded, IsPointTwice}
 use Rattle.pos_relocate.proofs.SortedLemmas.{sorted_one}
 use Rattle.pos_relocate.proofs.EntryLemmas.{shuffled_once}
@@ -86,13 +85,16 @@ pub level_added : (k t limit : ℕ) (chosen : Chosen) (below places : List ℕ) 
     → CanPoint k t limit (limit * (limit - 1) / 2) below tables a → ReadsOnly a b → IsTableAdded xs places before after b c
     → ((ts : TableLists) (p : ℕ → Bool) → TablesStand k tables ts a → Chooses chosen (pages_at tables (t - 1)).count p a → a.tells ≡ true
     → AreGathered p (point_at ts (t - 2) (slice_index below)) (pages_at tables (t - 1)).count xs)
+    → ((ts : TableLists) (p : ℕ → Bool) → TablesStand k tables ts a → Chooses chosen (pages_at tables (t - 1)).count p a → a.tells ≡ true
+    → HavePoints ts (t - 2) p below (pages_at tables (t - 1)).count)
     → IsLevelAdded k t chosen below places tables before after a c
-level_added k t limit chosen below places xs tables before after a b c can only table gathered = record {
+level_added k t limit chosen below places xs tables before after a b c can only table gathered have = record {
   points = firsts table.pointed;
-  added = λ p s. table.added p (stands_beside own before p Nothing Nothing a b only.kept (λ x. x) (λ n is x. x) s);
+  added = λ p s. table.added p (stands_beside before p Nothing Nothing a b only.kept (λ x. x) (λ n is x. x) s);
   renumbered = λ ts p stands chooses told inside marks.
       level_renumbered ts t (pages_at tables (t - 1)).count p below places xs table.pointed can.first can.last (level_count k t tables ts a can.first can.last stands) inside marks
       (gathered ts p stands chooses told) table.numbered;
+  have_points = have;
 }
 
 -- ---- what is wrong

@@ -9,13 +9,13 @@ use Rattle.pos_edge.specs.declared.scratch.ScratchDamage.{ScratchDamage}
 use Rattle.pos_edge.specs.View.{View}
 use Rattle.pos_edge.specs.Frame.{Just, NameOf, Nothing, ReadsOnly, SameFaults}
 use Rattle.pos_edge.specs.FileSets.{IsOutside}
-use Rattle.pos_lists.specs.TableLists.{TableLists, entries, left_of, right_of}
+use Rattle.pos_lists.specs.TableLists.{TableLists, entries, left_of, right_of, PairsInside}
 use Rattle.std.specs.Prelude.{All}
 use Rattle.pos_lists.specs.PlotLists.{PlotLists, numbers, count}
 use Rattle.pos_lists.specs.Trees.{IsInRange}
 use Rattle.pos_lists.specs.Used.{IsUsed, MarksUsed}
 use Rattle.pos_lists.specs.Sound.{IsSound}
-use Rattle.pos_lists.proofs.UsedLemmas.{used_at_top, inside_at_top}
+use Rattle.pos_lists.proofs.UsedLemmas.{used_at_top, used_is_inside, inside_at_top}
 use Rattle.pos_laws.specs.Tables.{Describes}
 use Rattle.pos_laws.specs.PlotOf.{PlotOf}
 use Rattle.pos_laws.specs.Renumbering.{IsLastTable, IsOneToOne, IsRelocated, IsRenumbered, point_at, with_places}
@@ -23,7 +23,7 @@ use Rattle.pos_laws.proofs.Relocation.{relocated_is_the_plot, relocated_is_in_ra
 use Rattle.pos_laws.proofs.Sound.{described_is_sound}
 use Rattle.pos_laws.proofs.Apart.{left_used, pairs_differ, points_differ, right_used, values_are_apart}
 use Rattle.pos_laws.proofs.PassLemmas.{nothing_is_renumbered, a_level_is_renumbered, six_passes_relocate}
-use Rattle.pos_layout.specs.Layouts.{own}
+use Rattle.pos_layout.specs.declared.layout.Layout.{Layout}
 use Rattle.pos_layout.specs.Lists.{IsTable}
 use Rattle.pos_layout.specs.Drafts.{Draft, WriterState, Stands, begun, plot_of}
 use Rattle.pos_layout.specs.Writing.{Goes, IsStanding, OpensNext, SameFile, WritesOnly, with_table, with_tables}
@@ -32,15 +32,16 @@ use Rattle.pos_marks.specs.declared.set.Marks.{Marks}
 use Rattle.pos_marks.specs.Marks.{Marked, marks_file}
 use Rattle.pos_marks.proofs.MarkLemmas.{marked_beside}
 use Rattle.pos_record.specs.Fields.{IsRecordSize}
-use Rattle.pos_runs.specs.Runs.{TablesState, TablesStand, IsTablesFile, pages_at}
+use Rattle.pos_runs.specs.Runs.{SameTables, TablesState, TablesStand, IsTablesFile, pages_at}
+use Rattle.pos_runs.proofs.TablesLemmas.{same_then}
 use Rattle.pos_relocate.specs.declared.chosen.Chosen.{Chosen}
 use Rattle.pos_relocate.specs.declared.chosen.Chosen.TheVariants.{Each, Those}
 use Rattle.pos_relocate.specs.Passes.{AreBelow, IsLastAdded}
 use Rattle.pos_relocate.specs.Choosing.{Chooses}
-use Rattle.pos_relocate.specs.Gathering.{CanNumber, IsOneNumber, SameTables, SomeHasNoPoint}
+use Rattle.pos_relocate.specs.Gathering.{CanNumber, HavePoints, IsOneNumber, SomeHasNoPoint}
 use Rattle.pos_relocate.specs.Levels.{CanRenumber, IsLevelAdded, IsPointTwice}
-use Rattle.pos_relocate.specs.Relocating.{AreAllUsed, AreLevelsAdded, AreReady, AreRelocated, CanRelocate, IsEntryTwice, IsNumberedUp, IsSomethingTwice, IsValueTwice}
-use Rattle.pos_relocate.proofs.GatheringLemmas.{same_then}
+use Rattle.pos_relocate.specs.Relocating.{AreAllUsed, AreLevelsAdded, AreReady, AreRelocated, CanRelocate, IsEntryTwice, IsNumberedUp, IsSomethingTwice, IsValueTwice, ValuesDiffer}
+use Rattle.pos_relocate.proofs.CountLemmas.{relocated_counts}
 use Rattle.pos_relocate.proofs.LastTableLemmas.{standing_kept}
 use Rattle.pos_relocate.proofs.LevelLemmas.{outside_now}
 use Rattle.pos_relocate.proofs.ValuesLemmas.{entries_count}
@@ -102,27 +103,27 @@ exact_self n = omega arith
 -- ---- drafts
 
 -- a writer whose open table is empty stands for a draft without numbers in it
-no_numbers : (w : WriterState) (p : Draft) (v : View) → w.count ≡ 0 → Stands own w p v → p.numbers ≡ []
+no_numbers : (w : WriterState) (p : Draft) (v : View) → w.count ≡ 0 → Stands w p v → p.numbers ≡ []
 no_numbers w p v none s = nil_from_length p.numbers (sym s.keeps.count ∙ none)
 
 draft_none : (p : Draft) → p ≡ with_tables [] p
-draft_none p = ap (λ e. let d : Draft = record { id = p.id; k = p.k; ended = e; numbers = p.numbers } in d) (sym (append-nil p.ended))
+draft_none p = ap (λ e. let d : Draft = record { layout = p.layout; memo = p.memo; id = p.id; k = p.k; ended = e; numbers = p.numbers } in d) (sym (append-nil p.ended))
 
 pub draft_next : (p : Draft) (lists : List (List ℕ)) (points : List ℕ) → p.numbers ≡ [] → with_table points (with_tables lists p) ≡ with_tables (lists ++ points ∷ []) p
 draft_next p lists points none =
-    let first : with_table points (with_tables lists p) ≡ (let d : Draft = record { id = p.id; k = p.k; ended = (p.ended ++ lists) ++ points ∷ []; numbers = [] } in d) =
-    ap (λ ns. let d : Draft = record { id = p.id; k = p.k; ended = (p.ended ++ lists) ++ (ns ++ points) ∷ []; numbers = [] } in d) none in
-    let second : (let d : Draft = record { id = p.id; k = p.k; ended = (p.ended ++ lists) ++ points ∷ []; numbers = [] } in d) ≡ (let d : Draft = record { id = p.id; k = p.k; ended = p.ended ++ (lists ++ points ∷ []); numbers = [] } in d) =
-    ap (λ e. let d : Draft = record { id = p.id; k = p.k; ended = e; numbers = [] } in d) (append_assoc p.ended lists (points ∷ [])) in
-    let third : (let d : Draft = record { id = p.id; k = p.k; ended = p.ended ++ (lists ++ points ∷ []); numbers = [] } in d) ≡ with_tables (lists ++ points ∷ []) p =
-    ap (λ ns. let d : Draft = record { id = p.id; k = p.k; ended = p.ended ++ (lists ++ points ∷ []); numbers = ns } in d) (sym none) in
+    let first : with_table points (with_tables lists p) ≡ (let d : Draft = record { layout = p.layout; memo = p.memo; id = p.id; k = p.k; ended = (p.ended ++ lists) ++ points ∷ []; numbers = [] } in d) =
+    ap (λ ns. let d : Draft = record { layout = p.layout; memo = p.memo; id = p.id; k = p.k; ended = (p.ended ++ lists) ++ (ns ++ points) ∷ []; numbers = [] } in d) none in
+    let second : (let d : Draft = record { layout = p.layout; memo = p.memo; id = p.id; k = p.k; ended = (p.ended ++ lists) ++ points ∷ []; numbers = [] } in d) ≡ (let d : Draft = record { layout = p.layout; memo = p.memo; id = p.id; k = p.k; ended = p.ended ++ (lists ++ points ∷ []); numbers = [] } in d) =
+    ap (λ e. let d : Draft = record { layout = p.layout; memo = p.memo; id = p.id; k = p.k; ended = e; numbers = [] } in d) (append_assoc p.ended lists (points ∷ [])) in
+    let third : (let d : Draft = record { layout = p.layout; memo = p.memo; id = p.id; k = p.k; ended = p.ended ++ (lists ++ points ∷ []); numbers = [] } in d) ≡ with_tables (lists ++ points ∷ []) p =
+    ap (λ ns. let d : Draft = record { layout = p.layout; memo = p.memo; id = p.id; k = p.k; ended = p.ended ++ (lists ++ points ∷ []); numbers = ns } in d) (sym none) in
     first ∙ (second ∙ third)
 
 -- one table more was added to a writer that had none open with numbers in it
 pub added_next : (lists : List (List ℕ)) (points : List ℕ) (before after next : WriterState) (a b c : View) → before.count ≡ 0 → Goes (with_tables lists) before after a b → Goes (with_table points) after next b c
     → Goes (with_tables (lists ++ points ∷ [])) before next a c
 added_next lists points before after next a b c none first second = λ p s.
-    subst (λ (d : Draft). Stands own next d c) (draft_next p lists points (no_numbers before p a none s)) (second (with_tables lists p) (first p s))
+    subst (λ (d : Draft). Stands next d c) (draft_next p lists points (no_numbers before p a none s)) (second (with_tables lists p) (first p s))
 
 -- ---- the levels so far
 
@@ -156,7 +157,7 @@ levels_none k limit m2 m3 m4 m5 m6 values old now w a b is can only faults same 
   writes = standing_kept w a b only can.standing;
   faults = faults;
   same = same;
-  same_file = record { file = refl; size = refl };
+  same_file = record { file = refl; layout = refl; size = refl };
   below = subst (λ (n : ℕ). AreBelow (pages_at old 0).count n values) (sym is) below;
   limited = values_limited k limit is;
   first = λ e. is;
@@ -165,13 +166,14 @@ levels_none k limit m2 m3 m4 m5 m6 values old now w a b is can only faults same 
   done = record {
     lists = [];
     as_long = refl;
-    added = λ p s. subst (λ (d : Draft). Stands own w d b) (draft_none p) (stands_beside own w p Nothing Nothing a b only.kept (λ x. x) (λ n is x. x) s);
+    added = λ p s. subst (λ (d : Draft). Stands w d b) (draft_none p) (stands_beside w p Nothing Nothing a b only.kept (λ x. x) (λ n is x. x) s);
     empty = record { size_is = can.begun.size_is; tables = let e = ap length can.begun.columns in omega arith; count = can.begun.count; least = can.begun.least };
     numbered = λ ts stands told sound used. record {
       place = λ n. slice_index ts.values;
       levels = nothing_is_renumbered ts;
       apart = λ n l. absurd (omega arith);
       top = ap slice_index (sym (known ts stands told));
+      differ = λ some. absurd (omega arith);
     };
   };
 }
@@ -193,10 +195,27 @@ given_place m new place = let e = eq-eqb m m refl in rw e refl
 other_place : (m n : ℕ) (new : ℕ → ℕ) (place : ℕ → ℕ → ℕ) → n ≢ m → with_places m new place n ≡ place n
 other_place m n new place other = let e = ne_eqb n m other in rw e refl
 
+-- at level 0 the numbers are the values
+numbers_are_values : (ts : TableLists) (m : ℕ) (kept : List ℕ) (lists : List (List ℕ)) → IsNumberedUp ts m kept lists → m ≡ 0 → (i : ℕ) → slice_index kept i ≡ slice_index ts.values i
+numbers_are_values ts m kept lists numbered none i =
+    let top : numbered.place 0 ≡ slice_index kept = subst (λ (n : ℕ). numbered.place n ≡ slice_index kept) none numbered.top in
+    ap (λ (f : ℕ → ℕ). f i) (sym top) ∙ numbered.levels.values i
+
+-- at level 1 the numbers are values
+values_differ : (ts : TableLists) (m : ℕ) (kept : List ℕ) (lists : List (List ℕ)) → IsNumberedUp ts m kept lists → m ≡ 0
+    → ((i : ℕ) → IsUsed ts (suc m) i → slice_index kept (left_of ts (suc m) i) ≢ slice_index kept (right_of ts (suc m) i)) → ValuesDiffer ts
+values_differ ts m kept lists numbered none differ i used same =
+    let value = numbers_are_values ts m kept lists numbered none in
+    let there : IsUsed ts (suc m) i = subst (λ (n : ℕ). IsUsed ts (suc n) i) (sym none) used in
+    differ i there
+    (value (left_of ts (suc m) i)
+    ∙ (ap (λ (n : ℕ). slice_index ts.values (left_of ts (suc n) i)) none ∙ (same ∙ (ap (λ (n : ℕ). slice_index ts.values (right_of ts (suc n) i)) (sym none) ∙ sym (value (right_of ts (suc m) i))))))
+
 -- one level more above those that are numbered
 numbered_next : (ts : TableLists) (m : ℕ) (kept more : List ℕ) (lists : List (List ℕ)) (points : List ℕ) → IsNumberedUp ts m kept lists
-    → IsRenumbered ts m (slice_index kept) (slice_index more) points → IsOneToOne ts (suc m) (slice_index more) → IsNumberedUp ts (suc m) more (lists ++ points ∷ [])
-numbered_next ts m kept more lists points was renumbered apart =
+    → IsRenumbered ts m (slice_index kept) (slice_index more) points → IsOneToOne ts (suc m) (slice_index more)
+    → ((i : ℕ) → IsUsed ts (suc m) i → slice_index kept (left_of ts (suc m) i) ≢ slice_index kept (right_of ts (suc m) i)) → IsNumberedUp ts (suc m) more (lists ++ points ∷ [])
+numbered_next ts m kept more lists points was renumbered apart points_differ =
     let new = slice_index more in
     let place = with_places (suc m) new was.place in record {
       place = place;
@@ -208,7 +227,21 @@ numbered_next ts m kept more lists points was renumbered apart =
             subst (λ (q : ℕ). IsOneToOne ts (suc q) (place (suc q))) same (subst (λ (f : ℕ → ℕ). IsOneToOne ts (suc m) f) (sym (given_place (suc m) new was.place)) apart)
       ];
       top = given_place (suc m) new was.place;
+      differ = λ some. elim (cases_eq m 0) [
+        | inl none ↦ values_differ ts m kept lists was none points_differ
+        | inr later ↦ was.differ (omega arith)
+      ];
     }
+
+-- ---- what each used pair has
+
+-- the numbers of used pairs differ where those of all numbered pairs do
+used_differ : (ts : TableLists) (t m : ℕ) (p : ℕ → Bool) (kept : List ℕ) (count : ℕ) → t ≡ m + 2 → suc m ≤ 6 → entries ts (suc m) ≡ count → PairsInside ts 6 → MarksUsed ts (suc m) p → HavePoints ts (t - 2) p kept count
+    → (i : ℕ) → IsUsed ts (suc m) i → slice_index kept (left_of ts (suc m) i) ≢ slice_index kept (right_of ts (suc m) i)
+used_differ ts t m p kept count is low as_long inside marks have i used =
+    let down : t - 2 ≡ m = n_down t m is in
+    let there : i < count = subst (λ (n : ℕ). i < n) as_long (used_is_inside ts (suc m) i low inside used) in
+    subst (λ (n : ℕ). slice_index kept (left_of ts (suc n) i) ≢ slice_index kept (right_of ts (suc n) i)) down (have i there ((marks i).1 used))
 
 -- ---- what stops it
 
@@ -218,12 +251,6 @@ numbers_apart ts m kept lists numbered some =
     let up : suc (m - 1) ≡ m = omega arith in
     let apart : IsOneToOne ts m (numbered.place m) = subst (λ (n : ℕ). IsOneToOne ts n (numbered.place n)) up (numbered.apart (m - 1) (omega arith)) in
     subst (λ (f : ℕ → ℕ). IsOneToOne ts m f) numbered.top apart
-
--- and at level 0 the numbers are the values
-numbers_are_values : (ts : TableLists) (m : ℕ) (kept : List ℕ) (lists : List (List ℕ)) → IsNumberedUp ts m kept lists → m ≡ 0 → (i : ℕ) → slice_index kept i ≡ slice_index ts.values i
-numbers_are_values ts m kept lists numbered none i =
-    let top : numbered.place 0 ≡ slice_index kept = subst (λ (n : ℕ). numbered.place n ≡ slice_index kept) none numbered.top in
-    ap (λ (f : ℕ → ℕ). f i) (sym top) ∙ numbered.levels.values i
 
 -- a used pair whose two places have one number: over sound tables this is of two values
 value_twice : (ts : TableLists) (k m i limit number : ℕ) (kept : List ℕ) (lists : List (List ℕ)) (old : TablesState) (damage : ScratchDamage) → IsSound ts k → m < 6 → IsNumberedUp ts m kept lists → IsUsed ts (suc m) i
@@ -404,7 +431,7 @@ module _ (k m limit : ℕ) (m2 m3 m4 m5 m6 : Marks) (places : List ℕ) (old now
         writes = writes_then before.file a b c levels_live was.writes (subst (λ (f : ℕ). WritesOnly f b c) was.same_file.file writes);
         faults = faults ∙ was.faults;
         same = same_then k old now new a b c was.same same;
-        same_file = record { file = same_file.file ∙ was.same_file.file; size = same_file.size ∙ was.same_file.size };
+        same_file = record { file = same_file.file ∙ was.same_file.file; layout = same_file.layout ∙ was.same_file.layout; size = same_file.size ∙ was.same_file.size };
         below = below_grown most (pages_at now (t - 1)).count (pages_at old (suc m)).count more is_most count below;
         limited = n_few most (length more) (pages_at now (t - 1)).count (pages_at old (suc m)).count (2 ^ (k + 1)) is_most below.as_long count (was.can.few (suc m) (n_some m) (n_low m low));
         first = n_never m;
@@ -420,7 +447,9 @@ module _ (k m limit : ℕ) (m2 m3 m4 m5 m6 : Marks) (places : List ℕ) (old now
               let both = level.renumbered ts p.0 (was.same.stand ts stands) p.1 (was.writes.kept.frame.tells ∙ told) sound.inside (subst (λ (n : ℕ). MarksUsed ts n p.0) (sym up) p.2) in
               numbered_next ts m places more was.done.lists level.points (was.done.numbered ts stands told sound used)
               (subst (λ (n : ℕ). IsRenumbered ts n (slice_index places) (slice_index more) level.points) (n_down t m is) both.0)
-              (subst (λ (n : ℕ). IsOneToOne ts n (slice_index more)) up both.1);
+              (subst (λ (n : ℕ). IsOneToOne ts n (slice_index more)) up both.1)
+              (used_differ ts t m p.0 places (pages_at now (t - 1)).count is (n_low m low) (entries_count k old ts a (suc m) (n_low m low) stands ∙ sym count) sound.inside p.2
+              (level.have_points ts p.0 (was.same.stand ts stands) p.1 (was.writes.kept.frame.tells ∙ told)));
         };
       }
 
@@ -478,7 +507,7 @@ turn_last m2 m3 m4 m5 m6 given left all none =
 -- ---- the end
 
 pub same_file_then : (before after next : WriterState) → SameFile before after → SameFile after next → SameFile before next
-same_file_then before after next p q = record { file = q.file ∙ p.file; size = q.size ∙ p.size }
+same_file_then before after next p q = record { file = q.file ∙ p.file; layout = q.layout ∙ p.layout; size = q.size ∙ p.size }
 
 n_six : ◌≢◌ {A = ℕ} 6 0
 n_six e = absurd (omega arith)
@@ -501,25 +530,30 @@ unfolding numbers
 sixth_is_short id k lists seven all = (all 5 [] (omega arith)).few
 
 -- what a writer stands for that had nothing, after relocation of the tables of an id, is the plot of the id
-relocated_plot : (id : List ℕ) (k : ℕ) (w : WriterState) (lists : List (List ℕ)) (ts : TableLists) (place : ℕ → ℕ → ℕ) (v : View)
-    → Stands own w (with_tables lists (begun id k)) v → length lists ≡ 7 → Describes ts id k → IsRelocated ts (plot_of (with_tables lists (begun id k))) place
-    → PlotOf (plot_of (with_tables lists (begun id k))) id k × IsInRange (plot_of (with_tables lists (begun id k)))
-relocated_plot id k w lists ts place v stands seven describes is =
-    let p = plot_of (with_tables lists (begun id k)) in
+relocated_plot : (l : Layout) (memo id : List ℕ) (k : ℕ) (w : WriterState) (lists : List (List ℕ)) (ts : TableLists) (place : ℕ → ℕ → ℕ) (v : View)
+    → Stands w (with_tables lists (begun l memo id k)) v → length lists ≡ 7 → Describes ts id k → IsRelocated ts (plot_of (with_tables lists (begun l memo id k))) place
+    → PlotOf (plot_of (with_tables lists (begun l memo id k))) id k × IsInRange (plot_of (with_tables lists (begun l memo id k)))
+relocated_plot l memo id k w lists ts place v stands seven describes is =
+    let p = plot_of (with_tables lists (begun l memo id k)) in
     let few : count p 6 ≤ 2 ^ (k + 1) = sixth_is_short id k lists seven stands.keeps.draft.ended in
     (relocated_is_the_plot ts id k p place describes is refl refl seven, relocated_is_in_range ts id k p place describes is refl few)
 
 -- the tables of the file, where table 7 followed
-pub relocated : (k : ℕ) (m2 m3 m4 m5 m6 : Marks) (places : List ℕ) (old now : TablesState) (before after next : WriterState) (a b c : View) → before.count ≡ 0 → WritesOnly before.file a b → SameTables k old now a b
+pub relocated : (k : ℕ) (m2 m3 m4 m5 m6 : Marks) (places : List ℕ) (old now : TablesState) (before after next : WriterState) (a b c : View) → (pages_at old 6).count ≤ 2 ^ (k + 1) → before.count ≡ 0 → WritesOnly before.file a b → SameTables k old now a b
     → AreLevelsAdded k 6 m2 m3 m4 m5 m6 places old before after a b → IsLastAdded k places now after next b c → AreRelocated k old m2 m3 m4 m5 m6 before next a c
-relocated k m2 m3 m4 m5 m6 places old now before after next a b c none writes same levels last = record {
+relocated k m2 m3 m4 m5 m6 places old now before after next a b c few none writes same levels last = record {
   lists = lists;
   seven = seven;
   added = added;
   relocated = made;
-  plot = λ ts id stands told described used empty.
-      let r = made ts (plot_of (with_tables lists (begun id k))) stands told (described_is_sound ts id k described) used refl refl in
-      relocated_plot id k next lists ts r.0 c (added (begun id k) empty) seven described r.1;
+  differ = λ ts stands told sound used. (levels.numbered ts stands told sound used).differ (omega arith);
+  counts = λ ts p stands told sound used size are.
+      let r = made ts p stands told sound used size are in
+      relocated_counts ts p r.0 r.1 (r.2 5 (omega arith))
+      (subst (λ (n : ℕ). entries ts 6 ≤ 2 ^ (n + 1)) (sym size) (subst (λ (n : ℕ). n ≤ 2 ^ (k + 1)) (sym (entries_count k old ts a 6 (omega arith) stands)) few));
+  plot = λ ts id l memo stands told described used empty.
+      let r = made ts (plot_of (with_tables lists (begun l memo id k))) stands told (described_is_sound ts id k described) used refl refl in
+      relocated_plot l memo id k next lists ts r.0 c (added (begun l memo id k) empty) seven described r.1;
 } where
   lists : List (List ℕ)
   lists = levels.lists ++ last.lasts ∷ []

@@ -5,8 +5,10 @@ pub mod GatheringLemmas
 pub mod PointingLemmas
 pub mod ValuesLemmas
 pub mod GatheredLemmas
+pub mod BlockLemmas
 pub mod LastLemmas
 pub mod SortedLemmas
 pub mod LastTableLemmas
 pub mod LevelLemmas
 pub mod LevelsLemmas
+pub mod CountLemmas

@@ -11,11 +11,11 @@ use Rattle.pos_edge.specs.View.{View}
 use Rattle.pos_edge.specs.Frame.{ReadsOnly, SameFaults}
 use Rattle.pos_lists.specs.TableLists.{TableLists, entries, pairs_of}
 use Rattle.pos_runs.specs.Lists.{IsListRead}
-use Rattle.pos_runs.specs.Runs.{TablesState, TablesStand, pages_at, value_record, pair_record}
+use Rattle.pos_runs.specs.Runs.{SameTables, TablesState, TablesStand, pages_at, value_record, pair_record}
 use Rattle.std.specs.Prelude.{slice_set}
+use Rattle.pos_runs.proofs.TablesLemmas.{same_none, same_read, same_then}
 use Rattle.pos_relocate.specs.Passes.{AreBelow}
-use Rattle.pos_relocate.specs.Gathering.{SameTables}
-use Rattle.pos_relocate.proofs.GatheringLemmas.{reads_none, reads_then, same_none, same_read, same_then}
+use Rattle.pos_relocate.proofs.GatheringLemmas.{reads_none, reads_then}
 
 -- each list has as many records as its level has entries
 pub entries_count : (k : ℕ) (t : TablesState) (ts : TableLists) (v : View) (n : ℕ) → n ≤ 6 → TablesStand k t ts v → entries ts n ≡ (pages_at t n).count

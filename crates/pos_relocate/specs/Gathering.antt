@@ -1,7 +1,7 @@
 -- What is read back of tables in one pass, and what is wrong with it.
 -- Source: the Construction document, "compression"; the damages are this project's own.
 -- Levels count from 0 to 6, a run's tables from 1 to 7, places from 0.
-use Rattle.std.specs.Prelude.{◌≡◌, ℕ, suc, ◌+◌, ◌-◌, ◌*◌, ◌/◌, ◌%◌, ◌^◌, ◌<◌, ◌≤◌, ◌⊎◌, Bool, true, List, length, slice_index, Result, IsErrOf}
+use Rattle.std.specs.Prelude.{◌≡◌, ◌≢◌, ℕ, suc, ◌+◌, ◌-◌, ◌*◌, ◌/◌, ◌%◌, ◌^◌, ◌<◌, ◌≤◌, ◌⊎◌, Bool, true, List, length, slice_index, Result, IsErrOf}
 use Rattle.pos_edge.specs.Faults.{Rose}
 use Rattle.pos_edge.specs.View.{View}
 use Rattle.pos_edge.specs.Frame.{ReadsOnly, SameFaultsBut}
@@ -25,13 +25,6 @@ pub record IsPointing {X : Type 0} (result : Result X WorkFault) (old new : View
   pub makes_none : (number : ℕ) → IsErrOf result (Exists number) → ⊥
   pub range : (damage : ScratchDamage) → IsErrOf result (Scratch damage) → IsOutOfRange damage
 
--- the same tables, but for the pages that are in memory
-pub record SameTables (k : ℕ) (before after : TablesState) (old new : View) : Type 0 where
-  pub stand : (ts : TableLists) → TablesStand k before ts old → TablesStand k after ts new
-  pub counts : (n : ℕ) → (pages_at after n).count ≡ (pages_at before n).count
-  pub files : (n : ℕ) → (pages_at after n).file ≡ (pages_at before n).file
-  pub numbers : (n : ℕ) → (pages_at after n).number ≡ (pages_at before n).number
-
 -- Entries of table t can get points below a bound: the tables stand, and the numbers of the table below are below a
 -- limit whose pairs have points below the bound.
 pub record CanPoint (k t limit bound : ℕ) (below : List ℕ) (tables : TablesState) (view : View) : Type 0 where
@@ -42,6 +35,10 @@ pub record CanPoint (k t limit bound : ℕ) (below : List ℕ) (tables : TablesS
   pub below_limit : AreBelow (length below) limit below
   pub limited : limit ≤ 2 ^ (k + 1)
   pub exact : limit * (limit - 1) / 2 ≤ bound
+
+-- The two numbers of each numbered pair of level n + 1 below a place differ: so it has a point.
+abbrev pub HavePoints : TableLists → ℕ → (ℕ → Bool) → List ℕ → ℕ → Type 0
+HavePoints ts n p below high = (i : ℕ) → i < high → p i ≡ true → slice_index below (left_of ts (suc n) i) ≢ slice_index below (right_of ts (suc n) i)
 
 -- ---- what is wrong
 

@@ -15,7 +15,7 @@ use Rattle.pos_runs.specs.Runs.{TablesState, TablesStand, IsTablesFile, pages_at
 use Rattle.pos_relocate.specs.declared.chosen.Chosen.{Chosen}
 use Rattle.pos_relocate.specs.Passes.{HasEmptyTable}
 use Rattle.pos_relocate.specs.Choosing.{Chooses}
-use Rattle.pos_relocate.specs.Gathering.{CanPoint}
+use Rattle.pos_relocate.specs.Gathering.{CanPoint, HavePoints}
 
 -- The numbered entries of table t can be renumbered over these numbers below a limit: they can get points, the marks stand,
 -- and a writer of this size has an empty table open, in a file that is none of the tables'.
@@ -28,13 +28,16 @@ pub record CanRenumber (k t limit : ℕ) (chosen : Chosen) (below : List ℕ) (t
   pub outside : IsOutside (IsTablesFile tables) (NameOf w.file view) (Just w.file) view
 
 -- A table was added whose numbers are the points of table t, and each numbered entry has its new place: over a disk that
--- tells and marks of the used places, the level is renumbered, and different used places have different new ones.
+-- tells and marks of the used places, the level is renumbered, and different used places have different new ones; the two numbers
+-- of each numbered entry differ.
 pub record IsLevelAdded (k t : ℕ) (chosen : Chosen) (below places : List ℕ) (tables : TablesState) (before after : WriterState) (old new : View) : Type 0 where
   pub points : List ℕ
   pub added : Goes (with_table points) before after old new
   pub renumbered : (ts : TableLists) (p : ℕ → Bool) → TablesStand k tables ts old → Chooses chosen (pages_at tables (t - 1)).count p old → old.tells ≡ true
       → PairsInside ts 6 → MarksUsed ts (t - 1) p
       → IsRenumbered ts (t - 2) (slice_index below) (slice_index places) points × IsOneToOne ts (t - 1) (slice_index places)
+  pub have_points : (ts : TableLists) (p : ℕ → Bool) → TablesStand k tables ts old → Chooses chosen (pages_at tables (t - 1)).count p old → old.tells ≡ true
+      → HavePoints ts (t - 2) p below (pages_at tables (t - 1)).count
 
 -- Two different entries of level n + 1 with a property have one point over these numbers of level n: the damage names one of
 -- them in its file, with that point.

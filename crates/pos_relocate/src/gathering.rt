@@ -3,19 +3,19 @@ ghost use Rattle.std.specs.Prelude.{◌≡◌, ◌+◌, ◌-◌, ◌*◌, ◌^�
 ghost use Rattle.pos_lists.specs.TableLists.{TableLists};
 ghost use Rattle.pos_lists.specs.Numbering.{AreGathered};
 ghost use Rattle.pos_record.specs.Fields.{IsRecordSize};
-ghost use Rattle.pos_runs.specs.Runs.{TablesStand, pages_at};
+ghost use Rattle.pos_runs.specs.Runs.{SameTables, TablesStand, pages_at};
 ghost use Rattle.pos_laws.specs.Renumbering.{point_at};
 ghost use Rattle.pos_relocate.specs.Passes.{AreBelow, AreListed};
 ghost use Rattle.pos_relocate.specs.Choosing.{Chooses};
 ghost use Rattle.pos_relocate.specs.Numbers.{numbers_of};
-ghost use Rattle.pos_relocate.specs.Gathering.{CanPoint, HasNoPoint, IsPointing, SameTables, SomeHasNoPoint};
+ghost use Rattle.pos_relocate.specs.Gathering.{CanPoint, HavePoints, IsPointing, SomeHasNoPoint};
 
+use crate::blocks::{BLOCK, Unpacked, add_pointed, unpack};
 use crate::chosen::Chosen;
 use crate::numbers::Numbers;
 use crate::pointed::Pointed;
-use crate::{push, with_room};
-use pos_edge::{Disk, ScratchDamage, WorkFault};
-use pos_points::to_point;
+use crate::with_room;
+use pos_edge::{Disk, WorkFault};
 use pos_runs::Tables;
 use std::alloc::Global;
 
@@ -63,115 +63,90 @@ pub(crate) fn gather<P: Pointed, D: Disk, const K: u32>(
     ensures gathered { IfOk result (λ entries. (ts : TableLists) (p : ℕ → Bool) → TablesStand K tables.old ts (D.view disk.old)
         → Chooses chosen.old (pages_at tables.old (t - 1)).count p (D.view disk.old) → (D.view disk.old).tells ≡ true
         → AreGathered p (point_at ts (t - 2) (slice_index (numbers_of below.now))) (pages_at tables.old (t - 1)).count (map P.pair entries.items)) }
+    ensures points { OnOk result ((ts : TableLists) (p : ℕ → Bool) → TablesStand K tables.old ts (D.view disk.old)
+        → Chooses chosen.old (pages_at tables.old (t - 1)).count p (D.view disk.old) → (D.view disk.old).tells ≡ true
+        → HavePoints ts (t - 2) p (numbers_of below.now) (pages_at tables.old (t - 1)).count) }
     ensures damage { (damage : _) → IsErrOf result (WorkFault.Scratch damage)
         → (ts : TableLists) (p : ℕ → Bool) → TablesStand K tables.old ts (D.view disk.old)
         → Chooses chosen.old (pages_at tables.old (t - 1)).count p (D.view disk.old) → (D.view disk.old).tells ≡ true
         → SomeHasNoPoint ts (t - 2) p limit (numbers_of below.now) tables.old damage }
 {
-    let mut entries = with_room(alloc, tables.count(t))?;
-    for i in 0..tables.count(t) {
-        gather_place(tables, t, chosen, below, limit, i, &mut entries, disk)?;
+    let count = tables.count(t);
+    let mut entries = with_room(alloc, count)?;
+    let mut pairs = with_room(alloc, BLOCK)?;
+    let mut from = 0;
+    while from < count {
+        let to = block_end(from, count);
+        gather_block(
+            tables,
+            t,
+            chosen,
+            below,
+            limit,
+            from,
+            to,
+            &mut pairs,
+            &mut entries,
+            disk,
+        )?;
+        from = to;
     }
     Ok(entries)
 }
 
-// Puts entry i of table t behind the others with its point, if it is numbered.
-fn gather_place<P: Pointed, D: Disk, const K: u32>(
+// Where the block ends that begins at this place of so many.
+#[inline(always)]
+fn block_end(from: u64, count: u64) -> u64
+    requires { from < count }
+    ensures after { from < result }
+    ensures inside { result ≤ count }
+{
+    if count - from > BLOCK {
+        return from + BLOCK;
+    }
+    count
+}
+
+// Puts the entries of table t at the places from one to another behind the others, those that are numbered, each with its point.
+// `pairs` is room for a block.
+fn gather_block<P: Pointed, D: Disk, const K: u32>(
     tables: &mut Tables<K>,
     t: u8,
     chosen: &mut Chosen,
     below: &Numbers,
     limit: u64,
-    i: u64,
+    from: u64,
+    to: u64,
+    pairs: &mut Vec<Unpacked>,
     entries: &mut Vec<P>,
     disk: &mut D,
 ) -> Result<(), WorkFault>
     requires can { CanPoint K t limit P.bound (numbers_of below.now) tables.old (D.view disk.old) }
-    requires there { i < (pages_at tables.old (t - 1)).count }
+    requires order { from ≤ to }
+    requires there { to ≤ (pages_at tables.old (t - 1)).count }
     requires chooses { (p : ℕ → Bool) × Chooses chosen.old (pages_at tables.old (t - 1)).count p (D.view disk.old) }
     ensures reading { IsPointing result (D.view disk.old) (D.view disk.new) }
     ensures tables { OnOk result (SameTables K tables.old tables.new (D.view disk.old) (D.view disk.new)) }
     ensures chosen { OnOk result ((n : ℕ) (p : ℕ → Bool) → Chooses chosen.old n p (D.view disk.old)
         → Chooses chosen.new n p (D.view disk.new)) }
-    ensures listed { OnOk result (AreListed i (2 ^ (2 * K + 2)) (map P.pair entries.old.items)
-        → AreListed (i + 1) (2 ^ (2 * K + 2)) (map P.pair entries.new.items)) }
+    ensures listed { OnOk result (AreListed from (2 ^ (2 * K + 2)) (map P.pair entries.old.items)
+        → AreListed to (2 ^ (2 * K + 2)) (map P.pair entries.new.items)) }
     ensures gathered { OnOk result ((ts : TableLists) (p : ℕ → Bool) → TablesStand K tables.old ts (D.view disk.old)
         → Chooses chosen.old (pages_at tables.old (t - 1)).count p (D.view disk.old) → (D.view disk.old).tells ≡ true
-        → AreGathered p (point_at ts (t - 2) (slice_index (numbers_of below.now))) i (map P.pair entries.old.items)
-        → AreGathered p (point_at ts (t - 2) (slice_index (numbers_of below.now))) (i + 1) (map P.pair entries.new.items)) }
+        → AreGathered p (point_at ts (t - 2) (slice_index (numbers_of below.now))) from (map P.pair entries.old.items)
+        → AreGathered p (point_at ts (t - 2) (slice_index (numbers_of below.now))) to (map P.pair entries.new.items)) }
+    ensures points { OnOk result ((ts : TableLists) (p : ℕ → Bool) → TablesStand K tables.old ts (D.view disk.old)
+        → Chooses chosen.old (pages_at tables.old (t - 1)).count p (D.view disk.old) → (D.view disk.old).tells ≡ true
+        → AreGathered p (point_at ts (t - 2) (slice_index (numbers_of below.now))) from (map P.pair entries.old.items)
+        → HavePoints ts (t - 2) p (numbers_of below.now) from → HavePoints ts (t - 2) p (numbers_of below.now) to) }
     ensures damage { (damage : _) → IsErrOf result (WorkFault.Scratch damage)
         → (ts : TableLists) (p : ℕ → Bool) → TablesStand K tables.old ts (D.view disk.old)
         → Chooses chosen.old (pages_at tables.old (t - 1)).count p (D.view disk.old) → (D.view disk.old).tells ≡ true
-        → (p i ≡ true) × HasNoPoint ts (t - 2) i limit (numbers_of below.now) tables.old damage }
+        → SomeHasNoPoint ts (t - 2) p limit (numbers_of below.now) tables.old damage }
 {
-    let is_chosen = chosen.has(disk, i)?;
-    if !is_chosen {
-        return Ok(());
-    }
-    let entry = pointed_at(tables, t, below, limit, i, disk)?;
-    push(entries, entry)?;
+    let file = tables.file(t - 1);
+    pairs.clear();
+    unpack(tables, t, chosen, below, from, to, pairs, disk)?;
+    add_pointed(pairs, below, limit, file, entries)?;
     Ok(())
-}
-
-// Entry i of table t with its point.
-fn pointed_at<P: Pointed, D: Disk, const K: u32>(
-    tables: &mut Tables<K>,
-    t: u8,
-    below: &Numbers,
-    limit: u64,
-    i: u64,
-    disk: &mut D,
-) -> Result<P, WorkFault>
-    requires can { CanPoint K t limit P.bound (numbers_of below.now) tables.old (D.view disk.old) }
-    requires there { i < (pages_at tables.old (t - 1)).count }
-    ensures reading { IsPointing result (D.view disk.old) (D.view disk.new) }
-    ensures tables { OnOk result (SameTables K tables.old tables.new (D.view disk.old) (D.view disk.new)) }
-    ensures place { IfOk result (λ entry. (P.pair entry).1 ≡ i) }
-    ensures small { IfOk result (λ entry. (P.pair entry).0 < 2 ^ (2 * K + 2)) }
-    ensures point { IfOk result (λ entry. (ts : TableLists) → TablesStand K tables.old ts (D.view disk.old)
-        → (D.view disk.old).tells ≡ true → (P.pair entry).0 ≡ point_at ts (t - 2) (slice_index (numbers_of below.now)) i) }
-    ensures damage { (damage : _) → IsErrOf result (WorkFault.Scratch damage)
-        → (ts : TableLists) → TablesStand K tables.old ts (D.view disk.old) → (D.view disk.old).tells ≡ true
-        → HasNoPoint ts (t - 2) i limit (numbers_of below.now) tables.old damage }
-{
-    let (left, right) = tables.pair(disk, t, i)?;
-    let count = below.len();
-    if left >= count {
-        return Err(WorkFault::Scratch(outside(tables.file(t), i, left, count)));
-    }
-    if right >= count {
-        return Err(WorkFault::Scratch(outside(tables.file(t), i, right, count)));
-    }
-    let first = below.at(left);
-    let second = below.at(right);
-    if first == second {
-        return Err(WorkFault::Scratch(equal(tables.file(t - 1), right, second, limit)));
-    }
-    Ok(P::new(to_point(first, second), i))
-}
-
-/// The record at this place was read back as a number that is not below a limit.
-pub(crate) fn outside(file: u32, at: u64, found: u64, limit: u64) -> ScratchDamage
-    ensures { result ≡ record { file = file; at = at; found = found; least = 0; limit = limit } }
-{
-    ScratchDamage {
-        file,
-        at,
-        found: u128::from(found),
-        least: 0,
-        limit: u128::from(limit),
-    }
-}
-
-// The record at this place has a number that another has already.
-fn equal(file: u32, at: u64, found: u64, limit: u64) -> ScratchDamage
-    ensures { result ≡ record { file = file; at = at; found = found; least = found + 1; limit = limit } }
-{
-    ScratchDamage {
-        file,
-        at,
-        found: u128::from(found),
-        least: u128::from(found) + 1,
-        limit: u128::from(limit),
-    }
 }

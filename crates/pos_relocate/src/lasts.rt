@@ -5,14 +5,14 @@ ghost use Rattle.pos_lists.specs.Sound.{IsSound};
 ghost use Rattle.pos_lists.specs.Numbering.{AreGathered};
 ghost use Rattle.pos_lists.specs.PlotLists.{last_number};
 ghost use Rattle.pos_record.specs.Fields.{IsRecordSize};
-ghost use Rattle.pos_runs.specs.Runs.{TablesStand, pages_at};
+ghost use Rattle.pos_runs.specs.Runs.{SameTables, TablesStand, pages_at};
 ghost use Rattle.pos_laws.specs.Renumbering.{IsOneToOne, last_at};
 ghost use Rattle.pos_layout.specs.Writing.{IsStanding, OpensNext, SameFile};
 ghost use Rattle.pos_relocate.specs.Passes.{AreBelow, AreListed, HasEmptyTable, IsLastAdded, IsPass};
 ghost use Rattle.pos_relocate.specs.Numbers.{numbers_of};
-ghost use Rattle.pos_relocate.specs.Gathering.{CanNumber, IsPointing, IsLastAbove, SameTables};
+ghost use Rattle.pos_relocate.specs.Gathering.{CanNumber, IsPointing, IsLastAbove};
 
-use crate::gathering::outside;
+use crate::blocks::outside;
 use crate::numbering::add_sorted;
 use crate::numbers::Numbers;
 use crate::pointed::{Narrow, Pointed, Wide};

@@ -1,11 +1,11 @@
 //! The renumbering of one table.
 ghost use Rattle.std.specs.Prelude.{◌≡◌, ◌-◌, ◌*◌, ◌/◌, ◌^◌, ◌≤◌, ◌↔◌, ◌⊎◌, ℕ, Bool, true, slice_index, IfOk, IsErrOf, IsTrue, OnOk};
 ghost use Rattle.pos_lists.specs.TableLists.{TableLists};
-ghost use Rattle.pos_runs.specs.Runs.{TablesStand, pages_at};
+ghost use Rattle.pos_runs.specs.Runs.{SameTables, TablesStand, pages_at};
 ghost use Rattle.pos_layout.specs.Writing.{OpensNext, SameFile};
 ghost use Rattle.pos_relocate.specs.Passes.{AreBelow, IsPass};
 ghost use Rattle.pos_relocate.specs.Choosing.{Chooses};
-ghost use Rattle.pos_relocate.specs.Gathering.{SameTables, SomeHasNoPoint};
+ghost use Rattle.pos_relocate.specs.Gathering.{SomeHasNoPoint};
 ghost use Rattle.pos_relocate.specs.Numbers.{numbers_of};
 ghost use Rattle.pos_relocate.specs.Levels.{CanRenumber, IsLevelAdded, IsPointTwice};
 

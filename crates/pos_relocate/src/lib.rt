@@ -9,6 +9,7 @@
 
 ghost use Rattle.std.specs.Prelude.{◌≡◌, ◌++◌, ◌∷◌, [], IfErr, IfOk, OnOk};
 
+mod blocks;
 mod chosen;
 mod gathering;
 mod lasts;

@@ -2,11 +2,10 @@
 ghost use Rattle.std.specs.Prelude.{◌≡◌, ℕ, List, true, IfOk, IsErrOf, OnOk};
 ghost use Rattle.pos_lists.specs.TableLists.{TableLists};
 ghost use Rattle.pos_lists.specs.Sound.{IsSound};
-ghost use Rattle.pos_runs.specs.Runs.{TablesStand, pages_at};
+ghost use Rattle.pos_runs.specs.Runs.{SameTables, TablesStand, pages_at};
 ghost use Rattle.pos_laws.specs.Tables.{Describes};
 ghost use Rattle.pos_layout.specs.Writing.{SameFile};
 ghost use Rattle.pos_relocate.specs.Passes.{AreBelow, IsPass};
-ghost use Rattle.pos_relocate.specs.Gathering.{SameTables};
 ghost use Rattle.pos_relocate.specs.Numbers.{numbers_of};
 ghost use Rattle.pos_relocate.specs.Relocating.{AreAllUsed, AreLevelsAdded, AreRelocated, CanRelocate, IsSomethingTwice};
 

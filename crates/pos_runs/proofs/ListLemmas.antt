@@ -9,7 +9,7 @@ use Rattle.pos_edge.specs.View.{View, IsDisk}
 use Rattle.pos_edge.specs.Frame.{ChangesOnly, KeepsIds, ReadsOnly, Nothing, Just, NameOf}
 use Rattle.pos_edge.specs.Images.{written}
 use Rattle.pos_edge.specs.Calls.{AreBytesAt, IsAsItWasOrGone, IsCreated, IsGone, IsThere, IsWritten}
-use Rattle.pos_edge.specs.ScratchNames.{ScratchState, next_name, with_file, without_file, StandsOn}
+use Rattle.pos_edge.specs.ScratchNames.{IsLeft, ScratchState, next_name, with_file, without_file, StandsOn}
 use Rattle.pos_edge.specs.ScratchWork.{IsNameBetween, IsScratchWork, IsScratchDone}
 use Rattle.pos_edge.proofs.ScratchWorkLemmas.{done_made, done_removed, work_made, work_refused, work_removed}
 use Rattle.pos_runs.specs.Pages.{ListPages, ListStands, ListHolds, PageHolds, FileHolds, per_page, page_of}
@@ -231,11 +231,11 @@ new-stands w scratch file number bytes a b new long = record {
 
 -- ---- what a `Scratch` did for a list
 
-pub new-refused : (s t : ScratchState) (a b : View) → t ≡ s → ChangesOnly (Just (next_name s)) Nothing a b → (StandsOn s a → StandsOn t b)
+pub new-refused : (s t : ScratchState) (a b : View) → t ≡ s → ChangesOnly (Just (next_name s)) Nothing a b → (StandsOn s a → StandsOn t b) → (IsSome (a.contents (next_name s)) → ChangesOnly Nothing Nothing a b)
     → IsScratchWork (IsNameBetween s.base s.made (t.made + 1)) Nothing s t a b
-new-refused s t a b is kept stands =
+new-refused s t a b is kept stands untouched =
     subst (λ (x : ScratchState). IsScratchWork (IsNameBetween s.base s.made (x.made + 1)) Nothing s x a b) (sym is)
-    (work_refused s a b kept (λ h. subst (λ (x : ScratchState). StandsOn x b) is (stands h)))
+    (work_refused s a b kept (λ h. subst (λ (x : ScratchState). StandsOn x b) is (stands h)) untouched)
 
 pub new-work : (s t : ScratchState) (file : ℕ) (a b : View) → t ≡ with_file s file → ChangesOnly (Just (next_name s)) Nothing a b → IsCreated (next_name s) file a b → (StandsOn s a → StandsOn t b)
     → IsScratchWork (IsNameBetween s.base s.made (t.made + 1)) Nothing s t a b
@@ -248,12 +248,12 @@ pub new-done : (s t : ScratchState) (file : ℕ) (a b : View) → t ≡ with_fil
 new-done s t file a b is few kept new =
     subst (λ (x : ScratchState). IsScratchDone (IsNameBetween s.base s.made x.made) Nothing s x a b) (sym is) (done_made s file a b few kept new)
 
-pub remove-work : (s t : ScratchState) (file own : ℕ) (a b : View) → file ≡ own → t ≡ without_file s file → ChangesOnly (NameOf file a) (Just file) a b → (StandsOn s a → StandsOn t b)
+pub remove-work : (s t : ScratchState) (file own : ℕ) (a b : View) → file ≡ own → t ≡ without_file s file → IsDisk a → IsLeft s own → ChangesOnly (NameOf file a) (Just file) a b → (StandsOn s a → StandsOn t b)
     → IsScratchWork (NameOf own a) (Just own) s t a b
-remove-work s t file own a b e is kept stands =
+remove-work s t file own a b e is disk left kept stands =
     subst (λ (f : ℕ). IsScratchWork (NameOf f a) (Just f) s t a b) e
     (subst (λ (x : ScratchState). IsScratchWork (NameOf file a) (Just file) s x a b) (sym is)
-    (work_removed s file a b kept (λ h. subst (λ (x : ScratchState). StandsOn x b) is (stands h))))
+    (work_removed s file a b disk (subst (IsLeft s) (sym e) left) kept (λ h. subst (λ (x : ScratchState). StandsOn x b) is (stands h))))
 
 pub remove-done : {X E : Type 0} (r : Result X E) (s t : ScratchState) (file own : ℕ) (a b : View) → file ≡ own → t ≡ without_file s file → IsDisk b → ChangesOnly (NameOf file a) (Just file) a b
     → IsAsItWasOrGone file a b → OnOk r (IsGone file a b) → OnOk r (StandsOn s a → IsScratchDone (NameOf own a) (Just own) s t a b)

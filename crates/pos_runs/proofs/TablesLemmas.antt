@@ -16,7 +16,7 @@ use Rattle.pos_record.specs.declared.kinds.Pair.{Pair}
 use Rattle.pos_record.specs.declared.kinds.Number.{Number}
 use Rattle.pos_runs.specs.Pages.{ListPages, ListStands, ListHolds, PageHolds}
 use Rattle.pos_runs.specs.Lists.{IsListRead}
-use Rattle.pos_runs.specs.Runs.{TablesState, no_pages, pages_at, level_width, value_record, pair_record, number_record, StandsSealed, TablesStand, IsTablesFile}
+use Rattle.pos_runs.specs.Runs.{TablesState, no_pages, pages_at, level_width, value_record, pair_record, number_record, SameTables, StandsSealed, TablesStand, IsTablesFile}
 use Rattle.pos_runs.proofs.ListLemmas.{outside-holds, outside-stands, read-holds, read-stands}
 
 -- a sealed list over reads of any file
@@ -154,3 +154,38 @@ last-read k t new s a b is read stands holds ts h =
     (tables-with k t ts 7 s a b (omega arith) h read.only read.count
     (λ few. absurd (omega arith)) (λ _. record { stands = stands; sealed = read.is_sealed ∙ h.last.sealed })
     (λ e. absurd (omega arith)) (λ m few e. absurd (omega arith)) (λ _. holds))
+
+-- ---- tables that are the same but for their pages in memory
+
+pub same_none : (k : ℕ) (t : TablesState) (v : View) → SameTables k t t v v
+same_none k t v = record { stand = λ ts h. h; counts = λ n. refl; files = λ n. refl; numbers = λ n. refl }
+
+pub same_then : (k : ℕ) (s t u : TablesState) (a b c : View) → SameTables k s t a b → SameTables k t u b c → SameTables k s u a c
+same_then k s t u a b c p q = record {
+  stand = λ ts h. q.stand ts (p.stand ts h);
+  counts = λ n. q.counts n ∙ p.counts n;
+  files = λ n. q.files n ∙ p.files n;
+  numbers = λ n. q.numbers n ∙ p.numbers n;
+}
+
+-- while other files are read
+pub same_beside : (k : ℕ) (t : TablesState) (a b : View) → ReadsOnly a b → SameTables k t t a b
+same_beside k t a b only = record { stand = λ ts h. tables-read k t ts a b only h; counts = λ n. refl; files = λ n. refl; numbers = λ n. refl }
+
+-- what holds of a list that was put in the place of another, and of the others
+at_list : {Y : Type 0} (f : ListPages → Y) (t : TablesState) (s : ListPages) (n m : ℕ) → n < length t → f s ≡ f (pages_at t n) → f (pages_at (slice_set t n s) m) ≡ f (pages_at t m)
+at_list f t s n m inside same = elim (cases_eq m n) [
+  | inl is ↦ ap (λ j. f (pages_at (slice_set t n s) j)) is ∙ ap f (get_or-set_same t n s no_pages inside) ∙ same ∙ sym (ap (λ j. f (pages_at t j)) is)
+  | inr other ↦ ap f (get_or-set_other t n m s no_pages other)
+]
+
+-- after one of the lists was read
+pub same_read : (k : ℕ) (t new : TablesState) (n : ℕ) (a b : View) → n < length t → new ≡ slice_set t n (pages_at new n) → IsListRead (pages_at t n) (pages_at new n) a b
+    → ((ts : TableLists) → TablesStand k t ts a → TablesStand k new ts b) → SameTables k t new a b
+same_read k t new n a b inside is read stand =
+    let s = pages_at new n in record {
+      stand = stand;
+      counts = λ m. ap (λ (x : TablesState). (pages_at x m).count) is ∙ at_list (λ x. x.count) t s n m inside read.count;
+      files = λ m. ap (λ (x : TablesState). (pages_at x m).file) is ∙ at_list (λ x. x.file) t s n m inside read.same.file;
+      numbers = λ m. ap (λ (x : TablesState). (pages_at x m).number) is ∙ at_list (λ x. x.number) t s n m inside read.same.number;
+    }

@@ -55,3 +55,10 @@ pub record TablesStand (k : ℕ) (t : TablesState) (ts : TableLists) (view : Vie
 -- the FileId is that of a list of these tables
 abbrev pub IsTablesFile : TablesState → ℕ → Type 0
 IsTablesFile t file = (n : ℕ) × (n ≤ 7) × (file ≡ (pages_at t n).file)
+
+-- the same tables, but for the pages that are in memory
+pub record SameTables (k : ℕ) (before after : TablesState) (old new : View) : Type 0 where
+  pub stand : (ts : TableLists) → TablesStand k before ts old → TablesStand k after ts new
+  pub counts : (n : ℕ) → (pages_at after n).count ≡ (pages_at before n).count
+  pub files : (n : ℕ) → (pages_at after n).file ≡ (pages_at before n).file
+  pub numbers : (n : ℕ) → (pages_at after n).number ≡ (pages_at before n).number

@@ -42,7 +42,7 @@ returns-in_err-entry-clause-answer g c =
     let p = err_from_is_err_and c.from_residual.result c.from_residual.ensures.1 in
     let there = c.loop-i-test.true in
     let long = c.len-i-end.ensures in
-    answer_read c.from_residual.result p.0 c.in_err-entry.field-0.0 g.row.K c.args.size c.args.t c.args.room.now.capacity g.R.Stored.entry g.R.Record.read g.R.Record.bit_count c.args.rows.now c.loop-i.rows c.loop-i.i c.loop-i.least c.loop-i.room.matcher c.loop-i.room.drafts (g.D.Disk.view c.args.disk.now) (g.D.Disk.view c.loop-i.disk) (g.D.Disk.view c.read_entry.new.disk) p.1 p.2 (omega arith) c.loop-i.invariant.gathering c.in_err-entry.ensures.refusal
+    answer_read c.from_residual.result p.0 c.in_err-entry.field-0.0 g.row.K c.args.size c.args.t c.args.room.now.capacity g.R.Stored.entry g.R.Record.read g.R.Record.bit_count c.args.rows.now c.loop-i.rows c.loop-i.i c.loop-i.least c.loop-i.room.matcher c.loop-i.room.drafts (g.D.Disk.view c.args.disk.now) (g.D.Disk.view c.loop-i.disk) (g.D.Disk.view c.read_entry.new.disk) p.1 p.2 c.requires.size (omega arith) c.loop-i.invariant.gathering c.in_err-entry.ensures.refusal
 
 pub take_entry-requires-clause-next : goal.take_entry-requires-clause-next
 take_entry-requires-clause-next g c =

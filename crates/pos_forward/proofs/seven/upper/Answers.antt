@@ -1,34 +1,23 @@
-use Rattle.std.proofs.Common.{◌≡◌, ℕ, ◌+◌, ◌^◌, ◌≤◌, ◌∷◌, [], Err, refl, sym, ap, ◌∙◌, subst, inl, arith}
+use Rattle.std.proofs.Common.{◌≡◌, ℕ, ◌+◌, ◌*◌, ◌^◌, ◌≤◌, ◌∷◌, [], refl, sym, subst, arith}
 use Rattle.std.proofs.lemmas.Result.{err_from_is_err_and}
-use Rattle.pos_edge.specs.Frame.{Just}
-use Rattle.pos_edge.specs.ScratchNames.{IsLeft}
 use Rattle.pos_record.specs.Kinds.{row_read, middle_width, number_read, number_width}
 use Rattle.pos_forward.specs.Stored.{draft_number, draft_row}
-use Rattle.pos_forward.specs.TablesSoFar.{AreDraftedAs, AreEntriesOf, HasMoreTables, IsMoreAnswer, row_entry}
-use Rattle.pos_forward.proofs.SoFarLemmas.{answer_well, drafted_entries, further_answer, further_done, further_work, more_retied, more_then, more_turned}
-use Rattle.pos_forward.proofs.SevenLemmas.{eights_of_four, number_fits, row_fits}
+use Rattle.pos_forward.specs.TablesSoFar.{AreDraftedAs, AreEntriesOf, HasMoreTables, IsMoreFault, row_entry}
+use Rattle.pos_forward.proofs.SoFarLemmas.{drafted_entries, eights_then, more_refused, more_retied, more_then, more_wider}
+use Rattle.pos_forward.proofs.SevenLemmas.{number_fits, row_fits}
 use Rattle.pos_forward.proofs.seven.upper.Goals as goal
-
-above_of : (number other made after : ℕ) → number + 1 ≡ made → other + 1 ≡ after → made ≤ after → number ≤ other
-above_of number other made after p q more = omega arith
 
 four_of : (made : ℕ) → made + 8 ≤ 10000 → made + 4 ≤ 10000
 four_of made room = omega arith
 
-four_more : (made after : ℕ) → made + 8 ≤ 10000 → after ≤ made + 4 → after + 4 ≤ 10000
-four_more made after room most = omega arith
+four_is : (many : ℕ) → many + 2 * 2 ≡ 2 * 4 → many ≡ 4
+four_is many so_many = omega arith
 
-ten_of : (made after end : ℕ) → made + 8 ≤ 10000 → after ≤ made + 4 → end ≤ after + 4 → end ≤ 10000
-ten_of made after end room first second = omega arith
+four_more : (made many after : ℕ) → made + 8 ≤ 10000 → many + 2 * 2 ≡ 2 * 4 → after ≡ made + many → after + 4 ≤ 10000
+four_more made many after room so_many is = omega arith
 
-forty_of : (made after end : ℕ) → after ≤ made + 4 → end ≤ after + 4 → end ≤ made + 40
-forty_of made after end first second = omega arith
-
-both_of : (made after end : ℕ) → after ≤ made + 4 → end ≤ after + 4 → end ≤ made + 8
-both_of made after end first second = omega arith
-
-half_of : (made after : ℕ) → after ≤ made + 4 → after ≤ made + 8
-half_of made after first = omega arith
+room_of : (made : ℕ) → made + 8 ≤ 10000 → made + 2 * 6 ≤ 10000 + 2 * 2
+room_of made room = omega arith
 
 within_of : (x c most : ℕ) → x ≤ c → c ≤ most → x ≤ most
 within_of x c most p q = omega arith
@@ -80,20 +69,17 @@ two_tables-requires g c =
       ),
     )
 
-pub returns-in_err-p4-clause-work : goal.returns-in_err-p4-clause-work
-returns-in_err-p4-clause-work g c = c.in_err-p4.ensures.work
-
-pub returns-in_err-p4-clause-most : goal.returns-in_err-p4-clause-most
-returns-in_err-p4-clause-most g c = half_of c.args.scratch.now.made c.two_tables.new.scratch.made c.in_err-p4.ensures.most
-
-pub returns-in_err-p4-clause-answer : goal.returns-in_err-p4-clause-answer
-returns-in_err-p4-clause-answer g c =
+pub returns-in_err-p4 : goal.returns-in_err-p4
+returns-in_err-p4 g c =
     let p = err_from_is_err_and c.from_residual.result c.from_residual.ensures.1 in
     let k = g.row.K in
-    let cap = c.args.room.now.capacity in
-    subst (λ z. IsMoreAnswer z k cap 2 (AreEntriesOf (row_entry k 3)) (row_read k 3) (middle_width k 3) c.args.rows c.args.scratch.now c.two_tables.new.scratch (g.D.Disk.view c.args.disk.now) (g.D.Disk.view c.two_tables.new.disk)) (sym (p.1 ∙ ap (λ y. Err y) p.2))
-    (more_turned c.in_err-p4.field-0.0 k cap 2 (AreEntriesOf (row_entry k 3)) (row_read k 3) (middle_width k 3) c.args.rows c.args.scratch.now c.two_tables.new.scratch (g.D.Disk.view c.args.disk.now) (g.D.Disk.view c.two_tables.new.disk)
-    c.in_err-p4.ensures.answer)
+    let e = c.in_err-p4.field-0.0 in
+    rw (p.1, p.2) (record {
+      fault = more_wider e k c.args.room.now.capacity 2 4 8 (AreEntriesOf (row_entry k 3)) (row_read k 3) (middle_width k 3) c.args.rows c.args.scratch.now c.two_tables.new.scratch
+          (g.D.Disk.view c.args.disk.now) (g.D.Disk.view c.two_tables.new.disk) (omega arith) c.in_err-p4.ensures.fault;
+      made = tt;
+      lanes = tt;
+    })
 
 pub two_tables-requires-2 : goal.two_tables-requires-2
 two_tables-requires-2 g c =
@@ -130,11 +116,11 @@ two_tables-requires-2 g c =
                         (
                           within_of c.in_ok-p4.rows.count cap (2 ^ (k + 1)) one.few r.capacity,
                           (
-                            subst (λ z. z ≤ 2 ^ (k + 1)) (sym first.capacity) r.capacity,
+                            subst (λ z. z ≤ 2 ^ (k + 1)) (sym first.room.capacity) r.capacity,
                             (
-                              first.ready,
+                              first.room.matcher,
                               (
-                                four_more s.made u.made r.files first.most,
+                                four_more s.made one.many u.made r.files one.so_many one.worked.made,
                                 ((λ draft fit. row_fits k 6 draft fit), ((λ draft. refl), (λ draft fit. number_fits k draft r.size fit))),
                               ),
                             ),
@@ -151,119 +137,55 @@ two_tables-requires-2 g c =
       ),
     )
 
-pub returns-in_err-p6-clause-work : goal.returns-in_err-p6-clause-work
-returns-in_err-p6-clause-work g c =
+pub returns-in_err-p6 : goal.returns-in_err-p6
+returns-in_err-p6 g c =
     let r = c.requires in
     let k = g.row.K in
     let cap = c.args.room.now.capacity in
     let s = c.args.scratch.now in
     let u = c.two_tables.new.scratch in
+    let v = c.two_tables-2.new.scratch in
     let a = g.D.Disk.view c.args.disk.now in
     let b = g.D.Disk.view c.two_tables.new.disk in
+    let d = g.D.Disk.view c.two_tables-2.new.disk in
     let rows = c.args.rows in
     let first = c.in_ok-p4.ensures in
     let one = more_retied k cap 2 4 (AreEntriesOf (row_entry k 3)) (row_read k 3) (middle_width k 3) (AreDraftedAs k 5 (draft_row 5)) (AreEntriesOf (row_entry k 5)) (row_read k 5) (middle_width k 5) s u rows
     (c.in_ok-p4.p4 ∷ c.in_ok-p4.p5 ∷ []) c.in_ok-p4.rows a b (drafted_entries k 5 (draft_row 5) (row_entry k 5) (λ draft. refl)) first.made in
-    let v = c.two_tables-2.new.scratch in
-    let d = g.D.Disk.view c.two_tables-2.new.disk in
-    let second = c.in_err-p6.ensures in
-    further_work (Just rows.file) rows.number s u v c.in_ok-p4.rows a b d (above_of rows.number c.in_ok-p4.rows.number s.made u.made r.rows.last one.last.last first.work.more)
-    (forty_of s.made u.made v.made first.most second.most) (λ f l x. inl (subst (IsLeft s) (sym x) r.rows.left)) one.new_file first.work second.work
-
-pub returns-in_err-p6-clause-most : goal.returns-in_err-p6-clause-most
-returns-in_err-p6-clause-most g c = both_of c.args.scratch.now.made c.two_tables.new.scratch.made c.two_tables-2.new.scratch.made c.in_ok-p4.ensures.most c.in_err-p6.ensures.most
-
-pub returns-in_err-p6-clause-answer : goal.returns-in_err-p6-clause-answer
-returns-in_err-p6-clause-answer g c =
-    let r = c.requires in
-    let k = g.row.K in
-    let cap = c.args.room.now.capacity in
-    let s = c.args.scratch.now in
-    let u = c.two_tables.new.scratch in
-    let a = g.D.Disk.view c.args.disk.now in
-    let b = g.D.Disk.view c.two_tables.new.disk in
-    let rows = c.args.rows in
-    let first = c.in_ok-p4.ensures in
-    let one = more_retied k cap 2 4 (AreEntriesOf (row_entry k 3)) (row_read k 3) (middle_width k 3) (AreDraftedAs k 5 (draft_row 5)) (AreEntriesOf (row_entry k 5)) (row_read k 5) (middle_width k 5) s u rows
-    (c.in_ok-p4.p4 ∷ c.in_ok-p4.p5 ∷ []) c.in_ok-p4.rows a b (drafted_entries k 5 (draft_row 5) (row_entry k 5) (λ draft. refl)) first.made in
-    let v = c.two_tables-2.new.scratch in
-    let d = g.D.Disk.view c.two_tables-2.new.disk in
     let second = c.in_err-p6.ensures in
     let e = c.in_err-p6.field-0.0 in
-    let p = err_from_is_err_and c.from_residual-in_err-p6.result c.from_residual-in_err-p6.ensures.1 in
-    subst (λ z. IsMoreAnswer z k cap 2 (AreEntriesOf (row_entry k 3)) (row_read k 3) (middle_width k 3) rows s v a d) (sym (p.1 ∙ ap (λ y. Err y) p.2))
-    (further_answer (Err e) k cap 2 4 (AreEntriesOf (row_entry k 3)) (row_read k 3) (middle_width k 3) (AreEntriesOf (row_entry k 5)) (row_read k 5) (middle_width k 5)
-    s u v rows (c.in_ok-p4.p4 ∷ c.in_ok-p4.p5 ∷ []) c.in_ok-p4.rows a b d first.work.base second.work.more (ten_of s.made u.made v.made r.files first.most second.most) first.done first.answer.quiet one
-    (more_turned e k cap 4 (AreEntriesOf (row_entry k 5)) (row_read k 5) (middle_width k 5) c.in_ok-p4.rows u v b d
-    (subst (λ z. IsMoreAnswer (Err e) k z 4 (AreEntriesOf (row_entry k 5)) (row_read k 5) (middle_width k 5) c.in_ok-p4.rows u v b d) first.capacity second.answer)))
+    let q = c.from_residual-in_err-p6.result in
+    let p = err_from_is_err_and q c.from_residual-in_err-p6.ensures.1 in
+    rw (p.1, p.2) (record {
+      fault = more_refused k cap 2 4 (AreEntriesOf (row_entry k 3)) (row_read k 3) (middle_width k 3) (AreEntriesOf (row_entry k 5)) (row_read k 5) (middle_width k 5) s u v rows c.in_ok-p4.rows
+          (c.in_ok-p4.p4 ∷ c.in_ok-p4.p5 ∷ []) a b d r.rows one e 4 4 8 (four_is one.many one.so_many) refl (omega arith) r.files
+          (subst (λ z. IsMoreFault k z 4 4 (AreEntriesOf (row_entry k 5)) (row_read k 5) (middle_width k 5) c.in_ok-p4.rows u v b d e) first.room.capacity second.fault);
+      made = tt;
+      lanes = tt;
+    })
 
-pub returns-clause-work : goal.returns-clause-work
-returns-clause-work g c =
+pub returns : goal.returns
+returns g c =
     let r = c.requires in
     let k = g.row.K in
     let cap = c.args.room.now.capacity in
     let s = c.args.scratch.now in
     let u = c.two_tables.new.scratch in
+    let v = c.two_tables-2.new.scratch in
     let a = g.D.Disk.view c.args.disk.now in
     let b = g.D.Disk.view c.two_tables.new.disk in
+    let d = g.D.Disk.view c.two_tables-2.new.disk in
     let rows = c.args.rows in
     let first = c.in_ok-p4.ensures in
     let one = more_retied k cap 2 4 (AreEntriesOf (row_entry k 3)) (row_read k 3) (middle_width k 3) (AreDraftedAs k 5 (draft_row 5)) (AreEntriesOf (row_entry k 5)) (row_read k 5) (middle_width k 5) s u rows
     (c.in_ok-p4.p4 ∷ c.in_ok-p4.p5 ∷ []) c.in_ok-p4.rows a b (drafted_entries k 5 (draft_row 5) (row_entry k 5) (λ draft. refl)) first.made in
-    let v = c.two_tables-2.new.scratch in
-    let d = g.D.Disk.view c.two_tables-2.new.disk in
     let second = c.in_ok-p6.ensures in
-    further_work (Just rows.file) rows.number s u v c.in_ok-p4.rows a b d (above_of rows.number c.in_ok-p4.rows.number s.made u.made r.rows.last one.last.last first.work.more)
-    (forty_of s.made u.made v.made first.most second.most) (λ f l x. inl (subst (IsLeft s) (sym x) r.rows.left)) one.new_file first.work second.work
-
-pub returns-clause-done : goal.returns-clause-done
-returns-clause-done g c =
-    let r = c.requires in
-    let k = g.row.K in
-    let cap = c.args.room.now.capacity in
-    let s = c.args.scratch.now in
-    let u = c.two_tables.new.scratch in
-    let a = g.D.Disk.view c.args.disk.now in
-    let b = g.D.Disk.view c.two_tables.new.disk in
-    let rows = c.args.rows in
-    let first = c.in_ok-p4.ensures in
-    let one = more_retied k cap 2 4 (AreEntriesOf (row_entry k 3)) (row_read k 3) (middle_width k 3) (AreDraftedAs k 5 (draft_row 5)) (AreEntriesOf (row_entry k 5)) (row_read k 5) (middle_width k 5) s u rows
-    (c.in_ok-p4.p4 ∷ c.in_ok-p4.p5 ∷ []) c.in_ok-p4.rows a b (drafted_entries k 5 (draft_row 5) (row_entry k 5) (λ draft. refl)) first.made in
-    let v = c.two_tables-2.new.scratch in
-    let d = g.D.Disk.view c.two_tables-2.new.disk in
-    let second = c.in_ok-p6.ensures in
-    further_done (Just rows.file) rows.number s u v c.in_ok-p4.rows a b d (above_of rows.number c.in_ok-p4.rows.number s.made u.made r.rows.last one.last.last first.work.more)
-    first.work.base second.work.more (ten_of s.made u.made v.made r.files first.most second.most) one.new_file first.done second.done
-
-pub returns-clause-most : goal.returns-clause-most
-returns-clause-most g c = both_of c.args.scratch.now.made c.two_tables.new.scratch.made c.two_tables-2.new.scratch.made c.in_ok-p4.ensures.most c.in_ok-p6.ensures.most
-
-pub returns-clause-answer : goal.returns-clause-answer
-returns-clause-answer g c =
-    answer_well (c.in_ok-p4.p4, c.in_ok-p4.p5, c.in_ok-p6.p6, c.in_ok-p6.p7, c.in_ok-p6.last) g.row.K c.args.room.now.capacity 2 (AreEntriesOf (row_entry g.row.K 3)) (row_read g.row.K 3) (middle_width g.row.K 3) c.args.rows
-    c.args.scratch.now c.two_tables-2.new.scratch (g.D.Disk.view c.args.disk.now) (g.D.Disk.view c.two_tables-2.new.disk) (c.in_ok-p6.ensures.answer.quiet ∙ c.in_ok-p4.ensures.answer.quiet)
-
-pub returns-clause-made : goal.returns-clause-made
-returns-clause-made g c =
-    let r = c.requires in
-    let k = g.row.K in
-    let cap = c.args.room.now.capacity in
-    let s = c.args.scratch.now in
-    let u = c.two_tables.new.scratch in
-    let a = g.D.Disk.view c.args.disk.now in
-    let b = g.D.Disk.view c.two_tables.new.disk in
-    let rows = c.args.rows in
-    let first = c.in_ok-p4.ensures in
-    let one = more_retied k cap 2 4 (AreEntriesOf (row_entry k 3)) (row_read k 3) (middle_width k 3) (AreDraftedAs k 5 (draft_row 5)) (AreEntriesOf (row_entry k 5)) (row_read k 5) (middle_width k 5) s u rows
-    (c.in_ok-p4.p4 ∷ c.in_ok-p4.p5 ∷ []) c.in_ok-p4.rows a b (drafted_entries k 5 (draft_row 5) (row_entry k 5) (λ draft. refl)) first.made in
-    let v = c.two_tables-2.new.scratch in
-    let d = g.D.Disk.view c.two_tables-2.new.disk in
-    let second = c.in_ok-p6.ensures in
-    more_then k cap 2 4 6 (AreEntriesOf (row_entry k 3)) (row_read k 3) (middle_width k 3) (AreEntriesOf (row_entry k 5)) (row_read k 5) (middle_width k 5)
-    (AreDraftedAs k 7 draft_number) (number_read k) (number_width k) s u v rows c.in_ok-p4.rows c.in_ok-p6.last (c.in_ok-p4.p4 ∷ c.in_ok-p4.p5 ∷ []) (c.in_ok-p6.p6 ∷ c.in_ok-p6.p7 ∷ []) a b d first.done one
-    (subst (λ z. HasMoreTables k z 4 6 (AreEntriesOf (row_entry k 5)) (row_read k 5) (middle_width k 5) (AreDraftedAs k 7 draft_number) (number_read k) (number_width k) u v c.in_ok-p4.rows
-    (c.in_ok-p6.p6 ∷ c.in_ok-p6.p7 ∷ []) c.in_ok-p6.last b d) first.capacity second.made)
-
-pub returns-clause-lanes : goal.returns-clause-lanes
-returns-clause-lanes g c =
-    eights_of_four c.args.lanes.now c.two_tables.new.lanes c.two_tables-2.new.lanes c.in_ok-p4.p4.count c.in_ok-p4.p5.count c.in_ok-p6.p6.count c.in_ok-p6.p7.count c.in_ok-p4.ensures.lanes c.in_ok-p6.ensures.lanes
+    let lists = c.in_ok-p6.p6 ∷ c.in_ok-p6.p7 ∷ [] in
+    record {
+      fault = tt;
+      made = more_then k cap 2 4 (AreEntriesOf (row_entry k 3)) (row_read k 3) (middle_width k 3) (AreEntriesOf (row_entry k 5)) (row_read k 5) (middle_width k 5) s u v rows c.in_ok-p4.rows
+          (c.in_ok-p4.p4 ∷ c.in_ok-p4.p5 ∷ []) a b d r.rows one 6 (AreDraftedAs k 7 draft_number) (number_read k) (number_width k) c.in_ok-p6.last lists (omega arith) (room_of s.made r.files)
+          (subst (λ z. HasMoreTables k z 4 6 (AreEntriesOf (row_entry k 5)) (row_read k 5) (middle_width k 5) (AreDraftedAs k 7 draft_number) (number_read k) (number_width k) u v c.in_ok-p4.rows lists c.in_ok-p6.last b d)
+          first.room.capacity second.made);
+      lanes = eights_then c.args.lanes.now c.two_tables.new.lanes c.two_tables-2.new.lanes (c.in_ok-p4.p4 ∷ c.in_ok-p4.p5 ∷ []) lists first.lanes second.lanes;
+    }

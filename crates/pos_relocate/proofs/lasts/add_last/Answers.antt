@@ -2,7 +2,6 @@ use Rattle.std.proofs.Common.{◌≡◌, map, Err, Ok, sym, ap, ◌∙◌, arith
 use Rattle.std.proofs.lemmas.Result.{err_from_is_err_and}
 use Rattle.pos_edge.specs.declared.scratch.WorkFault.TheVariants.{Scratch}
 use Rattle.pos_laws.specs.Renumbering.{firsts}
-use Rattle.pos_layout.specs.Layouts.{own}
 use Rattle.pos_layout.proofs.WorksLemmas.{stands_beside}
 use Rattle.pos_edge.specs.Frame.{Nothing}
 use Rattle.pos_relocate.specs.Numbers.{numbers_of}
@@ -75,7 +74,7 @@ returns-clause-ok g c =
     let pointed = map g.P.Pointed.pair c.in_ok-add_sorted.field-0.items in
     record {
       lasts = firsts pointed;
-      added = λ p s. table.added p (stands_beside own c.args.writer.now p Nothing Nothing a b first.reading.only.kept (λ x. x) (λ n is x. x) s);
+      added = λ p s. table.added p (stands_beside c.args.writer.now p Nothing Nothing a b first.reading.only.kept (λ x. x) (λ n is x. x) s);
       seventh = λ ts stands told sound.
           let count = last_count g.row.K c.args.tables.now ts a stands in
           let long = c.requires.can.places_below.as_long in

@@ -1,6 +1,7 @@
 use Rattle.std.proofs.Common.{◌≡◌, ℕ, refl, ap, ◌∙◌, arith}
 use Rattle.pos_runs.specs.Runs.{pages_at}
-use Rattle.pos_relocate.proofs.GatheringLemmas.{gathering_damage, same_read}
+use Rattle.pos_runs.proofs.TablesLemmas.{same_read}
+use Rattle.pos_relocate.proofs.GatheringLemmas.{gathering_damage}
 use Rattle.pos_relocate.proofs.LastLemmas.{last_above, last_out, made_fits, made_last, made_number}
 use Rattle.pos_relocate.proofs.lasts.numbered_at.Goals as goal
 

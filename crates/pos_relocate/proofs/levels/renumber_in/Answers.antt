@@ -2,10 +2,10 @@ use Rattle.std.proofs.Common.{◌≡◌, ℕ, ◌+◌, ◌-◌, ◌*◌, ◌/◌
 use Rattle.std.proofs.lemmas.Result.{err_from_is_err_and}
 use Rattle.pos_edge.specs.declared.scratch.WorkFault.TheVariants.{Scratch}
 use Rattle.pos_runs.specs.Runs.{pages_at}
+use Rattle.pos_runs.proofs.TablesLemmas.{same_then}
 use Rattle.pos_relocate.specs.Passes.{AreBelow, AreListed}
 use Rattle.pos_relocate.specs.Numbers.{numbers_of}
 use Rattle.pos_relocate.proofs.PassLemmas.{pass_done, pass_exit, pass_then}
-use Rattle.pos_relocate.proofs.GatheringLemmas.{same_then}
 use Rattle.pos_relocate.proofs.LastTableLemmas.{gathering_pass, standing_kept, standing_reads}
 use Rattle.pos_relocate.proofs.LevelLemmas.{can_wider, level_added, level_count, outside_now, point_twice, same_written}
 use Rattle.pos_relocate.proofs.levels.renumber_in.Goals as goal
@@ -110,4 +110,4 @@ returns-clause-ok g c =
     let file = c.args.writer.now.file in
     let can = c.requires.can.can in
     level_added k t c.args.limit c.args.chosen (numbers_of c.args.below) (numbers_of c.in_ok-places.places) (map g.P.Pointed.pair c.in_ok-entries.entries.items) c.args.tables.now c.args.writer.now c.number_least.new.writer a b d
-    can c.in_ok-entries.ensures.reading.only c.in_ok-places.ensures.ok c.in_ok-entries.ensures.gathered
+    can c.in_ok-entries.ensures.reading.only c.in_ok-places.ensures.ok c.in_ok-entries.ensures.gathered c.in_ok-entries.ensures.points

@@ -72,6 +72,7 @@ returns-clause-ok g c =
     on_ok (IsLastAdded k (numbers_of c.in_ok-places.places) c.renumber_levels.new.tables c.renumber_levels.new.writer c.last.new.writer b d)
     (AreRelocated k c.args.tables c.args.m2 c.args.m3 c.args.m4 c.args.m5 c.args.m6 c.args.writer.now c.last.new.writer a d) c.last.result
     (λ added. relocated k c.args.m2 c.args.m3 c.args.m4 c.args.m5 c.args.m6 places c.args.tables c.renumber_levels.new.tables c.args.writer.now c.renumber_levels.new.writer c.last.new.writer a b d
+    (six_few k c.args.m2 c.args.m3 c.args.m4 c.args.m5 c.args.m6 c.args.tables c.args.writer.now a c.requires)
     c.requires.begun.count got.pass.writes got.tables got.ok
     added) c.last.ensures.ok
 

@@ -27,5 +27,5 @@ pruned-requires g c =
     let fresh : s ≡ fresh_scratch (115 ∷ []) = c.in-Ok.ensures in
     let stands : StandsOn s (g.D.Disk.view c.args.disk.now) = subst (λ (x : ScratchState). StandsOn x (g.D.Disk.view c.args.disk.now)) (sym fresh) (fresh_stands (115 ∷ []) (g.D.Disk.view c.args.disk.now)) in
     let none : s.made ≡ 0 = ap (λ (x : ScratchState). x.made) fresh in
-    let ts = made.tables in
-    (size, (c.requires, (room_left s.made c.forward.new.scratch.made none made.work.most, (made.work.stands stands, (made.left, (ts.0, ts.1, λ told. (ts.2 told).inside))))))
+    let ts = made.made.tables in
+    (size, (c.requires, (room_left s.made c.forward.new.scratch.made none made.work.most, (made.work.stands stands, (made.made.left, (ts.0, ts.1, λ told. (ts.2 told).inside))))))

@@ -1,6 +1,6 @@
 use Rattle.std.proofs.Common.{◌<◌, sym, ◌∙◌, arith}
 use Rattle.pos_edge.specs.Frame.{Nothing}
-use Rattle.pos_edge.proofs.ScratchWorkLemmas.{work_beside}
+use Rattle.pos_edge.proofs.ScratchWorkLemmas.{work_read}
 use Rattle.pos_table_uses.proofs.tests.pruned.Goals as goal
 
 -- numbers, found where nothing else is known
@@ -24,7 +24,7 @@ prune-requires g c =
           (
             c.requires.room,
             (
-              (work_beside Nothing Nothing c.args.scratch.now a b read.only.kept read.only.ids).stands c.requires.files,
+              (work_read Nothing Nothing c.args.scratch.now a b read.only).stands c.requires.files,
               (
                 λ file is. c.requires.left file (is.0, is.1, is.2 ∙ read.lists.file is.0),
                 (ts.0, read.stands ts.0 ts.1, λ told. ts.2 (sym read.only.kept.tells ∙ told)),

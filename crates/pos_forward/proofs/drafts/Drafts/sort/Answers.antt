@@ -1,4 +1,4 @@
-use Rattle.std.proofs.Common.{rules, ◌≡◌, ◌<◌, length, arith, subst, sym, List}
+use Rattle.std.proofs.Common.{rules, ◌≡◌, ◌/◌, ◌^◌, ◌<◌, length, arith, subst, sym, List}
 use Rattle.std.specs.List.Sorted.{IsNonDecreasingBy, IsPermutation}
 use Rattle.std.proofs.lemmas.List.Sorted.{IsNonDecreasingBy-from_sort_by_key}
 use Rattle.pos_forward.specs.declared.drafts.Draft.{Draft}
@@ -21,7 +21,7 @@ short_rise : (c : goal.After-sort_unstable_by_key)
     → IsNonDecreasingBy (λ (d : Draft). d.y) (kept_drafts c.sort_unstable_by_key.new.self.items c.self.inside.whole.items)
 short_rise c =
     short-rise c.sort_unstable_by_key.new.self.items c.self.inside.whole.items (none c)
-    (IsNonDecreasingBy-from_sort_by_key (λ (d : ShortDraft). d.y) _ c.sort_unstable_by_key.ensures.sorted (λ a r q k. search rules))
+    (IsNonDecreasingBy-from_sort_by_key (λ (d : ShortDraft). d.key / 2 ^ 64) _ c.sort_unstable_by_key.ensures.sorted (λ a r q k. search rules))
 
 some : (c : goal.After-sort_unstable_by_key-else-is_empty) → 0 < length c.self.inside.whole.items
 some c = search rules

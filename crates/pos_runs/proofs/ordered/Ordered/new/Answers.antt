@@ -1,11 +1,13 @@
 use Rattle.std.proofs.Common.{◌≡◌, ap, arith, Err}
 use Rattle.pos_edge.specs.declared.scratch.WorkFault.TheVariants.{Exists}
+use Rattle.pos_edge.proofs.ScratchWorkLemmas.{refused_untouched}
 use Rattle.pos_runs.proofs.ListLemmas.{new-done, new-refused, new-stands, new-work}
 use Rattle.pos_runs.proofs.ordered.Ordered.new.Goals as goal
 
 pub returns-in-Err-clause-work : goal.returns-in-Err-clause-work
 returns-in-Err-clause-work g c =
     new-refused c.args.scratch.now c.create.new.self (g.D.Disk.view c.args.disk.now) (g.D.Disk.view c.create.new.disk) c.in-Err.ensures.refused c.create.ensures.kept c.create.ensures.stands
+    (refused_untouched (Err c.in-Err.fault) c.args.scratch.now (g.D.Disk.view c.args.disk.now) (g.D.Disk.view c.create.new.disk) c.in-Err.ensures.exists c.in-Err.ensures.failed c.in-Err.ensures.no_damage c.in-Err.ensures.memory)
 
 pub returns-in-Err-clause-exists : goal.returns-in-Err-clause-exists
 returns-in-Err-clause-exists g c = λ file is.
