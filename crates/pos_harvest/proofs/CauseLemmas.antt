@@ -9,11 +9,12 @@ use Rattle.pos_rice.specs.Park.{Park}
 use Rattle.pos_rice.proofs.ReadingLemmas.{found_exactly}
 use Rattle.pos_lists.specs.PlotLists.{f7_in}
 use Rattle.pos_layout.specs.declared.damage.Damage.{Damage}
-use Rattle.pos_layout.specs.declared.damage.Damage.TheVariants.{NotOpen, Header as WrongHeader, Length, Directory, Digest, Form as WrongForm, Pointer, NotAProof}
+use Rattle.pos_layout.specs.declared.damage.Damage.TheVariants.{NotOpen, Header as WrongHeader, Length, Directory, Digest, Form as WrongForm, Pointer, Order, NotAProof}
 use Rattle.pos_layout.specs.declared.header.Header.{Header}
 use Rattle.pos_layout.specs.declared.entry.ParkEntry.{ParkEntry}
 use Rattle.pos_layout.specs.Fields.{count_of, directory_of, end_of, entry_in, header_in, park_in}
-use Rattle.pos_layout.specs.Layouts.{Layout, longest_park, park_count}
+use Rattle.pos_layout.specs.declared.layout.Layout.{Layout}
+use Rattle.pos_layout.specs.Layouts.{longest_park, park_count, full_of, digest_of}
 use Rattle.pos_layout.specs.Lists.{points_inside}
 use Rattle.pos_layout.specs.Reading.{head, is_headed, is_listed, num, numbers_by, read_entry, read_park, tested, then_read, under}
 use Rattle.pos_layout.specs.Rules.{Opens}
@@ -146,21 +147,21 @@ by_no_entry : (l : Layout) (b : List ℕ) (t park : ℕ) (d : Damage) → read_e
 unfolding read_park
 by_no_entry l b t park d e = rw e refl
 
-numbers-digest : (l : Layout) (h : Header) (t park : ℕ) (e : ParkEntry) (s : List ℕ) → bytes_eq (take l.digest (sha256 s)) e.digest ≡ false → numbers_by l h t park e s ≡ Err (Digest t park)
+numbers-digest : (l : Layout) (h : Header) (t park : ℕ) (e : ParkEntry) (s : List ℕ) → bytes_eq (take (digest_of l) (sha256 s)) e.digest ≡ false → numbers_by l h t park e s ≡ Err (Digest t park)
 unfolding numbers_by
 numbers-digest l h t park e s wrong = rw wrong refl
 
-numbers-form : (l : Layout) (h : Header) (t park : ℕ) (e : ParkEntry) (s : List ℕ) → bytes_eq (take l.digest (sha256 s)) e.digest ≡ true → numbers_in h.size e.count s ≡ None
+numbers-form : (l : Layout) (h : Header) (t park : ℕ) (e : ParkEntry) (s : List ℕ) → bytes_eq (take (digest_of l) (sha256 s)) e.digest ≡ true → numbers_in h.size e.count s ≡ None
     → numbers_by l h t park e s ≡ Err (WrongForm t park)
 unfolding numbers_by
 numbers-form l h t park e s right none = rw (right, none) refl
 
-numbers-head : (l : Layout) (h : Header) (t park : ℕ) (e : ParkEntry) (s ns : List ℕ) → bytes_eq (take l.digest (sha256 s)) e.digest ≡ true → numbers_in h.size e.count s ≡ Some ns
+numbers-head : (l : Layout) (h : Header) (t park : ℕ) (e : ParkEntry) (s ns : List ℕ) → bytes_eq (take (digest_of l) (sha256 s)) e.digest ≡ true → numbers_in h.size e.count s ≡ Some ns
     → is_headed h t e ns ≡ false → numbers_by l h t park e s ≡ Err (Directory t park)
 unfolding numbers_by
 numbers-head l h t park e s ns right some headed = rw (right, some, headed) refl
 
-numbers-right : (l : Layout) (h : Header) (t park : ℕ) (e : ParkEntry) (s ns : List ℕ) → bytes_eq (take l.digest (sha256 s)) e.digest ≡ true → numbers_in h.size e.count s ≡ Some ns
+numbers-right : (l : Layout) (h : Header) (t park : ℕ) (e : ParkEntry) (s ns : List ℕ) → bytes_eq (take (digest_of l) (sha256 s)) e.digest ≡ true → numbers_in h.size e.count s ≡ Some ns
     → is_headed h t e ns ≡ true → numbers_by l h t park e s ≡ Ok ns
 unfolding numbers_by
 numbers-right l h t park e s ns right some headed = rw (right, some, headed) refl
@@ -183,14 +184,14 @@ module _ (l : Layout) (b : List ℕ) (t park : ℕ) (listed : is_listed l (heade
   reads_as : (r : Result (List ℕ) Damage) → numbers_by l (header_in b) t park (entry_in l b t park) (park_in b (entry_in l b t park)) ≡ r → read_park l b t park ≡ r
   reads_as r is = by_entry l b t park (entry_listed l b t park listed) ∙ is
 
-  digests : IsDigested l b (entry_in l b t park) → bytes_eq (take l.digest (sha256 (park_in b (entry_in l b t park)))) (entry_in l b t park).digest ≡ true
-  digests same = (bytes_eq-Decides (take l.digest (sha256 (park_in b (entry_in l b t park)))) (entry_in l b t park).digest).1 same
+  digests : IsDigested l b (entry_in l b t park) → bytes_eq (take (digest_of l) (sha256 (park_in b (entry_in l b t park)))) (entry_in l b t park).digest ≡ true
+  digests same = (bytes_eq-Decides (take (digest_of l) (sha256 (park_in b (entry_in l b t park)))) (entry_in l b t park).digest).1 same
 
-  digested : bytes_eq (take l.digest (sha256 (park_in b (entry_in l b t park)))) (entry_in l b t park).digest ≡ true → IsDigested l b (entry_in l b t park)
-  digested right = (bytes_eq-Decides (take l.digest (sha256 (park_in b (entry_in l b t park)))) (entry_in l b t park).digest).0 right
+  digested : bytes_eq (take (digest_of l) (sha256 (park_in b (entry_in l b t park)))) (entry_in l b t park).digest ≡ true → IsDigested l b (entry_in l b t park)
+  digested right = (bytes_eq-Decides (take (digest_of l) (sha256 (park_in b (entry_in l b t park)))) (entry_in l b t park).digest).0 right
 
   -- with the numbers of the park
-  with_numbers : (ns : List ℕ) → Opens l b → bytes_eq (take l.digest (sha256 (park_in b (entry_in l b t park)))) (entry_in l b t park).digest ≡ true
+  with_numbers : (ns : List ℕ) → Opens l b → bytes_eq (take (digest_of l) (sha256 (park_in b (entry_in l b t park)))) (entry_in l b t park).digest ≡ true
       → numbers_in (header_in b).size (entry_in l b t park).count (park_in b (entry_in l b t park)) ≡ Some ns → ParkAnswer l b t park
   with_numbers ns opens right some =
       let e = entry_in l b t park in
@@ -213,7 +214,7 @@ module _ (l : Layout) (b : List ℕ) (t park : ℕ) (listed : is_listed l (heade
       not_true false e = absurd (true≢false (sym e))
 
   -- with the digest
-  with_digest : Opens l b → bytes_eq (take l.digest (sha256 (park_in b (entry_in l b t park)))) (entry_in l b t park).digest ≡ true → ParkAnswer l b t park
+  with_digest : Opens l b → bytes_eq (take (digest_of l) (sha256 (park_in b (entry_in l b t park)))) (entry_in l b t park).digest ≡ true → ParkAnswer l b t park
   with_digest opens right =
       let e = entry_in l b t park in
       let k = (header_in b).size in
@@ -230,11 +231,11 @@ module _ (l : Layout) (b : List ℕ) (t park : ℕ) (listed : is_listed l (heade
   with_entry opens =
       let e = entry_in l b t park in
       ⊎_elim
-      (λ (right : bytes_eq (take l.digest (sha256 (park_in b e))) e.digest ≡ true). with_digest opens right)
-      (λ (wrong : bytes_eq (take l.digest (sha256 (park_in b e))) e.digest ≡ false).
+      (λ (right : bytes_eq (take (digest_of l) (sha256 (park_in b e))) e.digest ≡ true). with_digest opens right)
+      (λ (wrong : bytes_eq (take (digest_of l) (sha256 (park_in b e))) e.digest ≡ false).
       is_undigested is_in (λ same. true≢false (sym (digests same) ∙ wrong))
       (reads_as (Err (Digest t park)) (numbers-digest l (header_in b) t park e (park_in b e) wrong)))
-      (bool_cases (bytes_eq (take l.digest (sha256 (park_in b e))) e.digest))
+      (bool_cases (bytes_eq (take (digest_of l) (sha256 (park_in b e))) e.digest))
 
 park_answer : (l : Layout) (b : List ℕ) (t park : ℕ) → Opens l b → ParkAnswer l b t park
 park_answer l b t park opens =
@@ -329,16 +330,16 @@ park_caused l b t park d opens cause = absurd cause
 
 -- ---- a number, a head, a count
 
-num_refused : (l : Layout) (b : List ℕ) (t i : ℕ) (d : Damage) → read_park l b t (i / l.full) ≡ Err d → num l b t i ≡ Err d
+num_refused : (l : Layout) (b : List ℕ) (t i : ℕ) (d : Damage) → read_park l b t (i / (full_of l)) ≡ Err d → num l b t i ≡ Err d
 unfolding num
 num_refused l b t i d e = rw e refl
 
-num_read : (l : Layout) (b : List ℕ) (t i : ℕ) (ns : List ℕ) → read_park l b t (i / l.full) ≡ Ok ns
-    → num l b t i ≡ tested (points_inside (header_in b).size t (count_of (header_in b) (t - 1)) (slice_index ns (i % l.full))) (Pointer t i) (slice_index ns (i % l.full))
+num_read : (l : Layout) (b : List ℕ) (t i : ℕ) (ns : List ℕ) → read_park l b t (i / (full_of l)) ≡ Ok ns
+    → num l b t i ≡ tested (points_inside (header_in b).size t (count_of (header_in b) (t - 1)) (slice_index ns (i % (full_of l)))) (Pointer t i) (slice_index ns (i % (full_of l)))
 unfolding num
 num_read l b t i ns e = rw e refl
 
-pub park_to_number : (l : Layout) (b : List ℕ) (t i : ℕ) (d : Damage) → ParkCause l b t (i / l.full) d → NumberCause l b t i d
+pub park_to_number : (l : Layout) (b : List ℕ) (t i : ℕ) (d : Damage) → ParkCause l b t (i / (full_of l)) d → NumberCause l b t i d
 park_to_number l b t i (Pointer u at) cause = absurd cause
 park_to_number l b t i (NotOpen n gate) cause = cause
 park_to_number l b t i (WrongHeader field) cause = cause
@@ -346,6 +347,7 @@ park_to_number l b t i (Length said found) cause = cause
 park_to_number l b t i (Directory u q) cause = cause
 park_to_number l b t i (Digest u q) cause = cause
 park_to_number l b t i (WrongForm u q) cause = cause
+park_to_number l b t i (Order u at) cause = cause
 park_to_number l b t i (NotAProof at) cause = cause
 
 tested_true : {X : Type 0} (holds : Bool) (d : Damage) (x : X) → holds ≡ true → tested holds d x ≡ Ok x
@@ -357,18 +359,18 @@ tested_false true d x e = absurd (true≢false e)
 tested_false false d x e = refl
 
 number_cause : (l : Layout) (b : List ℕ) (t i : ℕ) (d : Damage) → Opens l b → num l b t i ≡ Err d → NumberCause l b t i d
-number_cause l b t i d opens refused = by (park_answer l b t (i / l.full) opens)
+number_cause l b t i d opens refused = by (park_answer l b t (i / (full_of l)) opens)
   where
-    of_park : (e : Damage) → read_park l b t (i / l.full) ≡ Err e → NumberCause l b t i d
-    of_park e is = park_to_number l b t i d (park_cause l b t (i / l.full) d opens (is ∙ ap (λ d. Err d) (err_same (num l b t i) e d (num_refused l b t i e is) refused)))
+    of_park : (e : Damage) → read_park l b t (i / (full_of l)) ≡ Err e → NumberCause l b t i d
+    of_park e is = park_to_number l b t i d (park_cause l b t (i / (full_of l)) d opens (is ∙ ap (λ d. Err d) (err_same (num l b t i) e d (num_refused l b t i e is) refused)))
 
-    by : ParkAnswer l b t (i / l.full) → NumberCause l b t i d
-    by (is_unlisted never is) = of_park (Directory t (i / l.full)) is
-    by (is_undigested listed never is) = of_park (Digest t (i / l.full)) is
-    by (is_formless listed digested none is) = of_park (WrongForm t (i / l.full)) is
-    by (is_headless ns holds seven other is) = of_park (Directory t (i / l.full)) is
+    by : ParkAnswer l b t (i / (full_of l)) → NumberCause l b t i d
+    by (is_unlisted never is) = of_park (Directory t (i / (full_of l))) is
+    by (is_undigested listed never is) = of_park (Digest t (i / (full_of l))) is
+    by (is_formless listed digested none is) = of_park (WrongForm t (i / (full_of l))) is
+    by (is_headless ns holds seven other is) = of_park (Directory t (i / (full_of l))) is
     by (is_read ns reads is) =
-        let n = slice_index ns (i % l.full) in
+        let n = slice_index ns (i % (full_of l)) in
         let inside = points_inside (header_in b).size t (count_of (header_in b) (t - 1)) n in
         ⊎_elim
         (λ (good : inside ≡ true). absurd (good_not_bad (num l b t i) n d (num_read l b t i ns is ∙ tested_true inside (Pointer t i) n good) refused))
@@ -380,15 +382,16 @@ number_cause l b t i d opens refused = by (park_answer l b t (i / l.full) opens)
 number_caused : (l : Layout) (b : List ℕ) (t i : ℕ) (d : Damage) → Opens l b → NumberCause l b t i d → num l b t i ≡ Err d
 number_caused l b t i (Pointer u at) opens cause =
     let ns = cause.2.0 in
-    num_read l b t i ns (park_reads l b t (i / l.full) ns opens cause.2.1)
-    ∙ tested_false _ (Pointer t i) (slice_index ns (i % l.full)) cause.2.2
+    num_read l b t i ns (park_reads l b t (i / (full_of l)) ns opens cause.2.1)
+    ∙ tested_false _ (Pointer t i) (slice_index ns (i % (full_of l))) cause.2.2
     ∙ ap (λ t. Err (Pointer t i)) (sym cause.0) ∙ ap (λ i. Err (Pointer u i)) (sym cause.1)
 number_caused l b t i (NotOpen n gate) opens cause = absurd cause
 number_caused l b t i (WrongHeader field) opens cause = absurd cause
 number_caused l b t i (Length said found) opens cause = absurd cause
-number_caused l b t i (Directory u q) opens cause = num_refused l b t i (Directory u q) (park_caused l b t (i / l.full) (Directory u q) opens cause)
-number_caused l b t i (Digest u q) opens cause = num_refused l b t i (Digest u q) (park_caused l b t (i / l.full) (Digest u q) opens cause)
-number_caused l b t i (WrongForm u q) opens cause = num_refused l b t i (WrongForm u q) (park_caused l b t (i / l.full) (WrongForm u q) opens cause)
+number_caused l b t i (Directory u q) opens cause = num_refused l b t i (Directory u q) (park_caused l b t (i / (full_of l)) (Directory u q) opens cause)
+number_caused l b t i (Digest u q) opens cause = num_refused l b t i (Digest u q) (park_caused l b t (i / (full_of l)) (Digest u q) opens cause)
+number_caused l b t i (WrongForm u q) opens cause = num_refused l b t i (WrongForm u q) (park_caused l b t (i / (full_of l)) (WrongForm u q) opens cause)
+number_caused l b t i (Order u at) opens cause = absurd cause
 number_caused l b t i (NotAProof at) opens cause = absurd cause
 
 pub number_damage_has_its_cause : NumberDamageHasItsCause

@@ -1,8 +1,10 @@
 pub mod CallLemmas
 pub mod CauseLemmas
 pub mod DamageLemmas
+pub mod FullParks
 pub mod ListingLemmas
 pub mod PlaceLemmas
+pub mod SourceLemmas
 pub mod SpanLemmas
 pub mod TupleLemmas
 pub mod WholeSpans

@@ -13,7 +13,7 @@ use Rattle.pos_reader.proofs.ParkLemmas.{lt_false, pointed_first, pointed_middle
 use Rattle.pos_harvest.specs.Searches.{places_of}
 
 -- a number of a table has a line point that `from_point` takes
-pub point_small : (k n : ℕ) → k ≤ 32 → n < 2 ^ (2 * k + 2) → n < 2 ^ 124
+pub point_small : (k n : ℕ) → k ≤ 50 → n < 2 ^ (2 * k + 2) → n < 2 ^ 124
 point_small k n small below =
     let most : 2 ^ (2 * k + 2) ≤ 2 ^ 124 = pow_mono {i = 2 * k + 2} {j = 124} (omega arith) in
     omega arith

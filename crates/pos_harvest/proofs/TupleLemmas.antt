@@ -11,8 +11,7 @@ use Rattle.pos_order.specs.Quality.{pair_quality, quality_index}
 use Rattle.pos_lists.specs.PlotLists.{place_in}
 use Rattle.pos_lists.specs.Walk.{walk, limb}
 use Rattle.pos_layout.specs.declared.damage.Damage.{Damage}
-use Rattle.pos_layout.specs.Fields.{header_in}
-use Rattle.pos_layout.specs.Layouts.{own}
+use Rattle.pos_layout.specs.Fields.{header_in, layout_in}
 use Rattle.pos_layout.specs.Reading.{num}
 use Rattle.pos_harvest.specs.Places.{IsNoProof, tuple_at, quality_in}
 use Rattle.pos_harvest.proofs.PlaceLemmas.{walk_from-refused, walk_from-found, limb_from-refused, limb_from-found}
@@ -20,10 +19,6 @@ use Rattle.pos_harvest.proofs.PlaceLemmas.{walk_from-refused, walk_from-found, l
 f7_found : (id : List ℕ) (k : ℕ) (xs : List ℕ) (e : Entry) → node id k 6 xs ≡ Some e → f7 id k xs ≡ Some (f7_of e)
 unfolding f7
 f7_found id k xs e h = rw h refl
-
-f7_none : (id : List ℕ) (k : ℕ) (xs : List ℕ) → node id k 6 xs ≡ None → f7 id k xs ≡ None
-unfolding f7
-f7_none id k xs h = rw h refl
 
 pub proof_found : (id : List ℕ) (k : ℕ) (c old new : List ℕ) (root : Entry) → IsTurnedTo id k 6 old new root → f7_of root ≡ challenge_value k c → Proof id k c new
 proof_found id k c old new root t same = record {
@@ -64,28 +59,28 @@ proof_never id k c old none xs turned p =
 
 -- ---- the values and the quality of a place, by the number of table 7
 
-pub tuple_refused : (b : List ℕ) (i : ℕ) (d : Damage) → num own b 7 i ≡ Err d → tuple_at own b i ≡ Err d
+pub tuple_refused : (b : List ℕ) (i : ℕ) (d : Damage) → num (layout_in b) b 7 i ≡ Err d → tuple_at (layout_in b) b i ≡ Err d
 unfolding tuple_at
-tuple_refused b i d refused = walk_from-refused (num own b) (header_in b).size i d refused
+tuple_refused b i d refused = walk_from-refused (num (layout_in b) b) (header_in b).size i d refused
 
-pub tuple_found : (b : List ℕ) (k i s at : ℕ) → k ≡ (header_in b).size → num own b 7 i ≡ Ok s → at ≡ place_in k s → tuple_at own b i ≡ walk (num own b) 6 at
+pub tuple_found : (b : List ℕ) (k i s at : ℕ) → k ≡ (header_in b).size → num (layout_in b) b 7 i ≡ Ok s → at ≡ place_in k s → tuple_at (layout_in b) b i ≡ walk (num (layout_in b) b) 6 at
 unfolding tuple_at
-tuple_found b k i s at same found is = walk_from-found (num own b) (header_in b).size i s at found (is ∙ ap (λ m. place_in m s) same)
+tuple_found b k i s at same found is = walk_from-found (num (layout_in b) b) (header_in b).size i s at found (is ∙ ap (λ m. place_in m s) same)
 
-pub quality_refused : (b c : List ℕ) (i : ℕ) (d : Damage) → num own b 7 i ≡ Err d → quality_in own b c i ≡ Err d
+pub quality_refused : (b c : List ℕ) (i : ℕ) (d : Damage) → num (layout_in b) b 7 i ≡ Err d → quality_in (layout_in b) b c i ≡ Err d
 unfolding quality_in
-quality_refused b c i d refused = rw (limb_from-refused (num own b) (header_in b).size (quality_index c) i d refused) refl
+quality_refused b c i d refused = rw (limb_from-refused (num (layout_in b) b) (header_in b).size (quality_index c) i d refused) refl
 
-pub quality_found : (b c : List ℕ) (k i s at x y : ℕ) → k ≡ (header_in b).size → num own b 7 i ≡ Ok s → at ≡ place_in k s
-    → limb (num own b) 5 (quality_index c) at ≡ Ok (x, y) → quality_in own b c i ≡ Ok (pair_quality k c x y)
+pub quality_found : (b c : List ℕ) (k i s at x y : ℕ) → k ≡ (header_in b).size → num (layout_in b) b 7 i ≡ Ok s → at ≡ place_in k s
+    → limb (num (layout_in b) b) 5 (quality_index c) at ≡ Ok (x, y) → quality_in (layout_in b) b c i ≡ Ok (pair_quality k c x y)
 unfolding quality_in
 quality_found b c k i s at x y same found is pair =
-    let e = limb_from-found (num own b) (header_in b).size (quality_index c) i s at found (is ∙ ap (λ m. place_in m s) same) ∙ pair in
+    let e = limb_from-found (num (layout_in b) b) (header_in b).size (quality_index c) i s at found (is ∙ ap (λ m. place_in m s) same) ∙ pair in
     rw (e, same) refl
 
-pub quality_stops : (b c : List ℕ) (k i s at : ℕ) (d : Damage) → k ≡ (header_in b).size → num own b 7 i ≡ Ok s → at ≡ place_in k s
-    → limb (num own b) 5 (quality_index c) at ≡ Err d → quality_in own b c i ≡ Err d
+pub quality_stops : (b c : List ℕ) (k i s at : ℕ) (d : Damage) → k ≡ (header_in b).size → num (layout_in b) b 7 i ≡ Ok s → at ≡ place_in k s
+    → limb (num (layout_in b) b) 5 (quality_index c) at ≡ Err d → quality_in (layout_in b) b c i ≡ Err d
 unfolding quality_in
 quality_stops b c k i s at d same found is stops =
-    let e = limb_from-found (num own b) (header_in b).size (quality_index c) i s at found (is ∙ ap (λ m. place_in m s) same) ∙ stops in
+    let e = limb_from-found (num (layout_in b) b) (header_in b).size (quality_index c) i s at found (is ∙ ap (λ m. place_in m s) same) ∙ stops in
     rw e refl

@@ -21,8 +21,7 @@ use Rattle.pos_laws.proofs.Spans.{listing_by_span, pairs_by_span, span_is_ordere
 use Rattle.pos_laws.proofs.WalkedTrees.{walk_from_the_top, limb_from_the_top}
 use Rattle.pos_layout.specs.declared.damage.Damage.{Damage}
 use Rattle.pos_layout.specs.declared.damage.Damage.TheVariants.{NotAProof}
-use Rattle.pos_layout.specs.Fields.{header_in}
-use Rattle.pos_layout.specs.Layouts.{own}
+use Rattle.pos_layout.specs.Fields.{header_in, layout_in}
 use Rattle.pos_layout.specs.Reading.{num, then_read}
 use Rattle.pos_layout.specs.Rules.{Well}
 use Rattle.pos_layout.proofs.StoredLemmas.{shown_lists}
@@ -40,22 +39,22 @@ ok_list xs ys e = cc
 pub tuple_is_the_tree : TupleIsTheTree
 unfolding tuple_at
 tuple_is_the_tree b p i well inside =
-    let shown = shown_lists b p well in
-    ap (λ k. walk_from (num own b) k i) (sym well.stores.size) ∙ walk_from_the_top (num own b) p i shown.in_range shown.reads inside
+    let shown = shown_lists (layout_in b) b p well in
+    ap (λ k. walk_from (num (layout_in b) b) k i) (sym well.stores.size) ∙ walk_from_the_top (num (layout_in b) b) p i shown.in_range shown.reads inside
 
 pub quality_is_of_the_branch : QualityIsOfTheBranch
 unfolding quality_in
 quality_is_of_the_branch b p c i well inside =
-    let shown = shown_lists b p well in
+    let shown = shown_lists (layout_in b) b p well in
     let said : ℕ → Result (ℕ × ℕ) Damage → Result (List ℕ) Damage = λ k r. then_read r (λ (pair : ℕ × ℕ). Ok (pair_quality k c pair.0 pair.1)) in
-    ap (λ k. said k (limb_from (num own b) k (quality_index c) i)) (sym well.stores.size)
-    ∙ ap (said p.k) (limb_from_the_top (num own b) p (quality_index c) i shown.in_range shown.reads inside)
+    ap (λ k. said k (limb_from (num (layout_in b) b) k (quality_index c) i)) (sym well.stores.size)
+    ∙ ap (said p.k) (limb_from_the_top (num (layout_in b) b) p (quality_index c) i shown.in_range shown.reads inside)
 
 -- the proof of a place has the place's tree as its plot order
-proof_ordered : (b : List ℕ) (p : PlotLists) (c : List ℕ) (i : ℕ) (xs : List ℕ) → Well own b p → i < count p 7 → ShowsProof own b c i xs
+proof_ordered : (b : List ℕ) (p : PlotLists) (c : List ℕ) (i : ℕ) (xs : List ℕ) → Well (layout_in b) b p → i < count p 7 → ShowsProof (layout_in b) b c i xs
     → tree p 6 (place_in p.k (number_at p 7 i)) ≡ plot_order 6 xs
 proof_ordered b p c i xs well inside shows =
-    let shown = shown_lists b p well in
+    let shown = shown_lists (layout_in b) b p well in
     let t = tree p 6 (place_in p.k (number_at p 7 i)) in
     let same : shows.values ≡ t = ok_list _ _ (sym shows.read ∙ tuple_is_the_tree b p i well inside) in
     let turned : Turning 6 xs t = subst (λ v. Turning 6 xs v) same shows.turned in
@@ -69,10 +68,10 @@ quality_is_of_the_proof b p c i xs well inside shows =
 
 -- ---- the lists of a challenge
 
-plots_span : (b : List ℕ) (p : PlotLists) (c : List ℕ) (first second : ℕ) → Well own b p → Span own b c first second → IsSpan p c first second
+plots_span : (b : List ℕ) (p : PlotLists) (c : List ℕ) (first second : ℕ) → Well (layout_in b) b p → Span (layout_in b) b c first second → IsSpan p c first second
 plots_span b p c first second well span = (span_is_of_the_list b p c first second well.stores).0 span
 
-listed_are_turned : (b : List ℕ) (p : PlotLists) (c : List ℕ) (out : List (List ℕ)) → Well own b p → ListsProofs own b c out → AreTurned p c out
+listed_are_turned : (b : List ℕ) (p : PlotLists) (c : List ℕ) (out : List (List ℕ)) → Well (layout_in b) b p → ListsProofs (layout_in b) b c out → AreTurned p c out
 listed_are_turned b p c out well h =
     let span = plots_span b p c h.first h.second well h.span in
     let order = span_is_ordered p c h.first h.second span in
@@ -92,8 +91,8 @@ listed_are_turned b p c out well h =
           (subst (λ k. Proof (header_in b).id.0 k c (slice_index_or out j [])) (sym well.stores.size) shows.proof);
     }
 
-few_in_table : (b : List ℕ) (p : PlotLists) (id : List ℕ) (k : ℕ) → Well own b p → PlotOf p id k → count p 6 ≤ 2 ^ (k + 1)
-few_in_table b p id k well plot = subst (λ k. count p 6 ≤ 2 ^ (k + 1)) plot.same_size (shown_lists b p well).few
+few_in_table : (b : List ℕ) (p : PlotLists) (id : List ℕ) (k : ℕ) → Well (layout_in b) b p → PlotOf p id k → count p 6 ≤ 2 ^ (k + 1)
+few_in_table b p id k well plot = subst (λ k. count p 6 ≤ 2 ^ (k + 1)) plot.same_size (shown_lists (layout_in b) b p well).few
 
 pub listed_are_the_proofs : ListedAreTheProofs
 listed_are_the_proofs b p id k c out well plot h =
@@ -101,7 +100,7 @@ listed_are_the_proofs b p id k c out well plot h =
 
 pub listed_are_the_qualities : ListedAreTheQualities
 listed_are_the_qualities b p id k c proofs out well plot lists h =
-    let shown = shown_lists b p well in
+    let shown = shown_lists (layout_in b) b p well in
     let there = list_is_there p id k c plot (few_in_table b p id k well plot) in
     let same : there.0 ≡ proofs = one_list id k c there.0 proofs there.2 lists in
     let turned : AreTurned p c proofs = subst (λ (out : List (List ℕ)). AreTurned p c out) same there.1 in
@@ -133,10 +132,21 @@ only_a_place_without_proof b p c d well (inr h) =
     let from = stops.from in
     let to = stops.to in
     let at : stops.place < count p 7 = omega arith in
-    ⊎_elim
-    (λ (e : tuple_at own b stops.place ≡ Err d). absurd (never_both _ _ d (tuple_is_the_tree b p stops.place well at) e))
-    (λ (n : (d ≡ NotAProof stops.place) × ShowsNoProof own b c stops.place). (stops.place, at, n.0, n.1))
-    stops.here
+    let none = ⊎_elim
+    (λ (e : tuple_at (layout_in b) b stops.place ≡ Err d). absurd (never_both _ _ d (tuple_is_the_tree b p stops.place well at) e))
+    (λ (n : (d ≡ NotAProof stops.place) × ShowsNoProof (layout_in b) b c stops.place). n)
+    stops.here in
+    record {
+      first = h.first;
+      second = h.second;
+      span = span;
+      place = stops.place;
+      from = from;
+      to = to;
+      before = stops.before;
+      named = none.0;
+      never = none.1;
+    }
 
 pub each_place_has_a_proof : EachPlaceHasAProof
 each_place_has_a_proof b p id k c d well plot (inl damage) = no_last_damage b p d well.stores damage
@@ -155,8 +165,8 @@ each_place_has_a_proof b p id k c d well plot (inr h) =
     let long : length (listing p c) ≡ h.second - h.first = by.0 in
     let turns = listing_turns p id k c (i - h.first) plot (few_in_table b p id k well plot) (omega arith) in
     ⊎_elim
-    (λ (e : tuple_at own b i ≡ Err d). never_both _ _ d (tuple_is_the_tree b p i well at) e)
-    (λ (n : (d ≡ NotAProof i) × ShowsNoProof own b c i).
+    (λ (e : tuple_at (layout_in b) b i ≡ Err d). never_both _ _ d (tuple_is_the_tree b p i well at) e)
+    (λ (n : (d ≡ NotAProof i) × ShowsNoProof (layout_in b) b c i).
     let none = n.1 in
     let same : slice_index_or (listing p c) (i - h.first) [] ≡ none.values = listed ∙ ok_list _ _ (sym (tuple_is_the_tree b p i well at) ∙ none.read) in
     none.never turns.0 (subst (λ v. Turning 6 turns.0 v) same turns.1)

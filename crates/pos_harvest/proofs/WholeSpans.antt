@@ -11,13 +11,16 @@ use Rattle.pos_laws.specs.Listing.{IsBound, IsSpan}
 use Rattle.pos_laws.proofs.Spans.{bounds_are_there, one_bound, span_is_ordered}
 use Rattle.pos_layout.specs.declared.damage.Damage.{Damage}
 use Rattle.pos_layout.specs.Bytes.{part}
-use Rattle.pos_layout.specs.Fields.{header_in}
-use Rattle.pos_layout.specs.Layouts.{own}
+use Rattle.pos_layout.specs.Fields.{header_in, layout_in}
 use Rattle.pos_layout.specs.Reading.{head, under}
 use Rattle.pos_layout.specs.Rules.{Stores}
+use Rattle.pos_layout.proofs.LayoutLemmas.{park_inside}
 use Rattle.pos_layout.proofs.StoredLemmas.{head_stored, count_stored}
+use Rattle.pos_layout.specs.declared.layout.Layout.{Layout}
+use Rattle.pos_layout.specs.Layouts.{full_of}
 use Rattle.pos_reader.specs.Spans.{BeginsBelow, BeginsFrom, Bound, last_count}
 use Rattle.pos_reader.proofs.ParkLemmas.{lt_false}
+use Rattle.pos_harvest.proofs.FullParks.{next_park, park_from, park_there, park_to, some_there}
 use Rattle.pos_harvest.specs.SpanLaws.{BoundIsOfTheList, SpanIsOfTheList, OneSpan, NoLastDamage}
 
 -- ---- an answer is not both
@@ -74,101 +77,112 @@ from_test k f n more = lt_false n (f * 2 ^ (k + 1)) (⊎_elim
 
 -- ---- what the reads of table 7 answer, by the plot's bound
 
-module _ (b : List ℕ) (p : PlotLists) (stores : Stores own b p) where
+module _ (b : List ℕ) (p : PlotLists) (stores : Stores (layout_in b) b p) where
+  abbrev l : Layout
+  l = layout_in b
+
   same_count : count p 7 ≡ last_count b
   same_count = (stores.tables 7 (omega arith) (omega arith)).count
 
   -- a park begins with the number at its first place
-  head_is : (park : ℕ) → 2048 * park < count p 7 → head own b park ≡ Ok (f7_in p.k (number_at p 7 (2048 * park)))
-  head_is park there = head_stored b p park stores (omega arith)
+  head_is : (park : ℕ) → full_of l * park < count p 7 → head l b park ≡ Ok (f7_in p.k (number_at p 7 (full_of l * park)))
+  head_is park there = head_stored l b p park stores (park_there l park (count p 7) there)
 
   -- of a park so many numbers are below
-  under_is : (f i park : ℕ) → IsBound p f i → 2048 * park < count p 7 → under own b park f ≡ Ok (min (i - 2048 * park) (min 2048 (count p 7 - 2048 * park)))
+  under_is : (f i park : ℕ) → IsBound p f i → full_of l * park < count p 7 → under l b park f ≡ Ok (min (i - full_of l * park) (min (full_of l) (count p 7 - full_of l * park)))
   under_is f i park bound there =
-      let a = 2048 * park in
-      let ns = part (numbers p 7) a 2048 in
-      let m = min (i - a) (min 2048 (count p 7 - a)) in
-      let len : length ns ≡ min 2048 (count p 7 - a) = part_length (numbers p 7) a 2048 in
-      count_stored b p park f stores (omega arith)
+      let a = full_of l * park in
+      let ns = part (numbers p 7) a (full_of l) in
+      let m = min (i - a) (min (full_of l) (count p 7 - a)) in
+      let len : length ns ≡ min (full_of l) (count p 7 - a) = part_length (numbers p 7) a (full_of l) in
+      count_stored l b p park f stores (park_there l park (count p 7) there)
       ∙ ap (λ n. Ok n) (count_exact (λ n. nat_lt n (f * 2 ^ (p.k + 1))) ns m (omega arith)
-      (λ j l. subst (λ n. nat_lt n (f * 2 ^ (p.k + 1)) ≡ true) (sym (part_at (numbers p 7) a 2048 j (omega arith)))
+      (λ j less. subst (λ n. nat_lt n (f * 2 ^ (p.k + 1)) ≡ true) (sym (part_at (numbers p 7) a (full_of l) j (omega arith)))
       (below_test p.k f (number_at p 7 (a + j)) (bound.below (a + j) (omega arith))))
-      (λ j l g. subst (λ n. nat_lt n (f * 2 ^ (p.k + 1)) ≡ false) (sym (part_at (numbers p 7) a 2048 j (omega arith)))
+      (λ j more inside. subst (λ n. nat_lt n (f * 2 ^ (p.k + 1)) ≡ false) (sym (part_at (numbers p 7) a (full_of l) j (omega arith)))
       (from_test p.k f (number_at p 7 (a + j)) (bound.from (a + j) (omega arith) (omega arith)))))
 
   -- a bound of the list is shown
-  bound_shown : (f i : ℕ) → IsBound p f i → Bound own b f i
+  bound_shown : (f i : ℕ) → IsBound p f i → Bound l b f i
   bound_shown f i bound = record {
-    inside = let l = bound.inside in let s = same_count in omega arith;
+    inside = let most = bound.inside in let s = same_count in omega arith;
     none = λ first some.
         let s = same_count in
-        let there : 2048 * 0 < count p 7 = omega arith in
-        (f7_in p.k (number_at p 7 (2048 * 0)), head_is 0 there, bound.from (2048 * 0) (omega arith) there);
+        let numbers = some_there l (last_count b) some in
+        let there : full_of l * 0 < count p 7 = omega arith in
+        (f7_in p.k (number_at p 7 (full_of l * 0)), head_is 0 there, bound.from (full_of l * 0) (omega arith) there);
     some = λ first.
-        let park = (i - 1) / 2048 in
-        let l = bound.inside in
-        let there : 2048 * park < count p 7 = omega arith in
+        let park = (i - 1) / full_of l in
+        let most = bound.inside in
+        let from = park_from l (i - 1) in
+        let to = park_to l (i - 1) in
+        let there : full_of l * park < count p 7 = omega arith in
         record {
-          begins = (f7_in p.k (number_at p 7 (2048 * park)), head_is park there, bound.below (2048 * park) (omega arith));
+          begins = (f7_in p.k (number_at p 7 (full_of l * park)), head_is park there, bound.below (full_of l * park) (omega arith));
           counts = under_is f i park bound there
-              ∙ ap (λ n. Ok n) (let e : min (i - 2048 * park) (min 2048 (count p 7 - 2048 * park)) ≡ i - 2048 * park = omega arith in e);
+              ∙ ap (λ n. Ok n) (let e : min (i - full_of l * park) (min (full_of l) (count p 7 - full_of l * park)) ≡ i - full_of l * park = omega arith in e);
           next = λ at more.
               let s = same_count in
-              let after : 2048 * (park + 1) < count p 7 = omega arith in
-              (f7_in p.k (number_at p 7 (2048 * (park + 1))), head_is (park + 1) after, bound.from (2048 * (park + 1)) (omega arith) after);
+              let after : full_of l * (park + 1) < count p 7 = subst (λ n. full_of l * (park + 1) < n) (sym s) (park_inside l (park + 1) (last_count b) more) in
+              (f7_in p.k (number_at p 7 (full_of l * (park + 1))), head_is (park + 1) after, bound.from (full_of l * (park + 1)) (omega arith) after);
         };
   }
 
   -- a head that is a number is that of the list
-  head_below : (f park : ℕ) → 2048 * park < count p 7 → BeginsBelow own b f park → f7_in p.k (number_at p 7 (2048 * park)) < f
+  head_below : (f park : ℕ) → full_of l * park < count p 7 → BeginsBelow l b f park → f7_in p.k (number_at p 7 (full_of l * park)) < f
   head_below f park there h = subst (λ n. n < f) (ok_number _ _ (sym h.1 ∙ head_is park there)) h.2
 
-  head_from : (f park : ℕ) → 2048 * park < count p 7 → BeginsFrom own b f park → f ≤ f7_in p.k (number_at p 7 (2048 * park))
+  head_from : (f park : ℕ) → full_of l * park < count p 7 → BeginsFrom l b f park → f ≤ f7_in p.k (number_at p 7 (full_of l * park))
   head_from f park there h = subst (λ n. f ≤ n) (ok_number _ _ (sym h.1 ∙ head_is park there)) h.2
 
   -- a bound that is shown is the list's: i is shown, and the list has j
-  bound_same : (f i j : ℕ) → Bound own b f i → IsBound p f j → i ≡ j
+  bound_same : (f i j : ℕ) → Bound l b f i → IsBound p f j → i ≡ j
   bound_same f i j shown bound = ⊎_elim (λ (none : i < 1). at_none (omega arith)) (λ (some : 1 ≤ i). at_some (omega arith)) (cases_lt i 1)
     where
       at_none : i ≡ 0 → i ≡ j
       at_none none = ⊎_elim
           (λ (some : 0 < j).
           let s = same_count in
-          let l = bound.inside in
-          let there : 2048 * 0 < count p 7 = omega arith in
-          let more = head_from f 0 there (shown.none none (omega arith)) in
-          let less = bound.below (2048 * 0) (omega arith) in
+          let most = bound.inside in
+          let there : full_of l * 0 < count p 7 = omega arith in
+          let parks = park_there l 0 (last_count b) (omega arith) in
+          let more = head_from f 0 there (shown.none none parks) in
+          let less = bound.below (full_of l * 0) (omega arith) in
           absurd (omega arith))
           (λ (empty : j ≤ 0). omega arith)
           (cases_lt 0 j)
 
       at_some : 0 < i → i ≡ j
       at_some some =
-          let park = (i - 1) / 2048 in
+          let park = (i - 1) / full_of l in
           let s = same_count in
-          let l = shown.inside in
-          let g = bound.inside in
-          let there : 2048 * park < count p 7 = omega arith in
+          let few = shown.inside in
+          let most = bound.inside in
+          let start = park_from l (i - 1) in
+          let end = park_to l (i - 1) in
+          let step = next_park l park in
+          let there : full_of l * park < count p 7 = omega arith in
           let ends = shown.some some in
           let less = head_below f park there ends.begins in
-          let counts : i - 2048 * park ≡ min (j - 2048 * park) (min 2048 (count p 7 - 2048 * park)) = ok_number _ _ (sym ends.counts ∙ under_is f j park bound there) in
+          let counts : i - full_of l * park ≡ min (j - full_of l * park) (min (full_of l) (count p 7 - full_of l * park)) = ok_number _ _ (sym ends.counts ∙ under_is f j park bound there) in
           ⊎_elim
           (λ (more : i < j).
-          let at : i ≡ 2048 * (park + 1) = omega arith in
-          let after : 2048 * (park + 1) < count p 7 = omega arith in
-          let from = head_from f (park + 1) after (ends.next at (omega arith)) in
-          let below = bound.below (2048 * (park + 1)) (omega arith) in
+          let at : i ≡ full_of l * (park + 1) = omega arith in
+          let after : full_of l * (park + 1) < count p 7 = omega arith in
+          let parks = park_there l (park + 1) (last_count b) (omega arith) in
+          let from = head_from f (park + 1) after (ends.next at parks) in
+          let below = bound.below (full_of l * (park + 1)) (omega arith) in
           absurd (omega arith))
-          (λ (few : j ≤ i). ⊎_elim
-          (λ (first : j ≤ 2048 * park). absurd (let from = bound.from (2048 * park) first there in omega arith))
-          (λ (in_park : 2048 * park < j). omega arith)
-          (le_or j (2048 * park)))
+          (λ (upto : j ≤ i). ⊎_elim
+          (λ (first : j ≤ full_of l * park). absurd (let from = bound.from (full_of l * park) first there in omega arith))
+          (λ (in_park : full_of l * park < j). omega arith)
+          (le_or j (full_of l * park)))
           (cases_lt i j)
         where
           le_or : (m n : ℕ) → (m ≤ n) ⊎ (n < m)
           le_or m n = ⊎_elim (λ (l : n < m). inr l) (λ (g : m ≤ n). inl g) (cases_lt n m)
 
-rising : (b : List ℕ) (p : PlotLists) → Stores own b p → NumbersRise p
+rising : (b : List ℕ) (p : PlotLists) → Stores (layout_in b) b p → NumbersRise p
 rising b p stores = λ n h. AllPairs-from_increasing (numbers p (suc n)) (stores.tables (suc n) (omega arith) (omega arith)).rising
 
 pub bound_is_of_the_list : BoundIsOfTheList
@@ -187,8 +201,8 @@ span_is_of_the_list b p c first second stores = (
   },
   λ span. record {
     ordered = (span_is_ordered p c first second span).0;
-    lower = subst (λ k. Bound own b (challenge_value k c) first) stores.size (bound_shown b p stores _ first span.lower);
-    upper = subst (λ k. Bound own b (challenge_value k c + 1) second) stores.size (bound_shown b p stores _ second span.upper);
+    lower = subst (λ k. Bound (layout_in b) b (challenge_value k c) first) stores.size (bound_shown b p stores _ first span.lower);
+    upper = subst (λ k. Bound (layout_in b) b (challenge_value k c + 1) second) stores.size (bound_shown b p stores _ second span.upper);
   },
 )
 
@@ -211,10 +225,10 @@ one_span b p c stores =
 pub no_last_damage : NoLastDamage
 no_last_damage b p d stores damage =
     let s = same_count b p stores in
-    let there : 2048 * damage.0 < count p 7 = let l = damage.1 in omega arith in
+    let there : full_of (layout_in b) * damage.0 < count p 7 = subst (λ n. full_of (layout_in b) * damage.0 < n) (sym s) (park_inside (layout_in b) damage.0 (last_count b) damage.1) in
     ⊎_elim
-    (λ (e : head own b damage.0 ≡ Err d). never_both _ _ d (head_is b p stores damage.0 there) e)
-    (λ (u : (f : ℕ) × (f ≤ 2 ^ (header_in b).size) × (under own b damage.0 f ≡ Err d)).
+    (λ (e : head (layout_in b) b damage.0 ≡ Err d). never_both _ _ d (head_is b p stores damage.0 there) e)
+    (λ (u : (f : ℕ) × (f ≤ 2 ^ (header_in b).size) × (under (layout_in b) b damage.0 f ≡ Err d)).
     let bound = bounds_are_there p u.0 (rising b p stores) in
     never_both _ _ d (under_is b p stores u.0 bound.0 damage.0 bound.1 there) u.2)
     damage.2

@@ -2,7 +2,7 @@
 -- Source: this project's plot file format. Tables count from 1 to 7, parks and places from 0.
 use Rattle.std.specs.Prelude.{◌≡◌, ℕ, ◌↔◌, List, Err}
 use Rattle.pos_layout.specs.declared.damage.Damage.{Damage}
-use Rattle.pos_layout.specs.Layouts.{Layout}
+use Rattle.pos_layout.specs.declared.layout.Layout.{Layout}
 use Rattle.pos_layout.specs.Reading.{num, head, under}
 use Rattle.pos_layout.specs.Rules.{Opens}
 use Rattle.pos_reader.specs.ReadingCauses.{EntryCause, ParkCause, NumberCause}

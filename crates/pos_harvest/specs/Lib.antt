@@ -7,3 +7,4 @@ pub mod PlotDamage
 pub mod Refusals
 pub mod SpanLaws
 pub mod Searches
+pub mod Sources

@@ -2,7 +2,7 @@
 -- Places count from 0.
 use Rattle.std.specs.Prelude.{◌≡◌, ℕ, ◌+◌, ◌-◌, ◌<◌, ◌≤◌, ◌⊎◌, List, [], length, slice_index_or, Result, Ok, Err}
 use Rattle.pos_layout.specs.declared.damage.Damage.{Damage}
-use Rattle.pos_layout.specs.Layouts.{Layout}
+use Rattle.pos_layout.specs.declared.layout.Layout.{Layout}
 use Rattle.pos_edge.specs.View.{View}
 use Rattle.pos_reader.specs.Plots.{PlotState}
 use Rattle.pos_reader.specs.Readings.{CountsFaults, LeavesPlot}
@@ -10,6 +10,7 @@ use Rattle.pos_reader.specs.Spans.{IsLastDamage, Span}
 use Rattle.pos_harvest.specs.declared.refusal.ListRefusal.{ListRefusal}
 use Rattle.pos_harvest.specs.declared.refusal.ListRefusal.TheVariants.{DiskFailed}
 use Rattle.pos_harvest.specs.Places.{quality_in, ShowsProof, FailsAsProof}
+use Rattle.pos_harvest.specs.Sources.{Source, LeavesSource}
 
 -- out has, for each place from first up to, not with, second and in their order, the proof that it shows
 pub record AreProofsOf (l : Layout) (b c : List ℕ) (first second : ℕ) (out : List (List ℕ)) : Type 0 where
@@ -78,4 +79,9 @@ IsQualityListDamage l b c d =
 -- The plot is as it was, the disk was only read, at most so often, and it failed exactly where that is answered.
 pub record IsListing {X : Type 0} (most : ℕ) (result : Result X ListRefusal) (p q : PlotState) (old new : View) : Type 0 where
   pub left : LeavesPlot most p q old new
+  pub faults : CountsFaults DiskFailed result old new
+
+-- The same of a source of numbers.
+pub record IsSourceListing {S E X : Type 0} (s : Source S E) (most : ℕ) (result : Result X ListRefusal) (p q : S) (old new : View) : Type 0 where
+  pub left : LeavesSource s most p q old new
   pub faults : CountsFaults DiskFailed result old new

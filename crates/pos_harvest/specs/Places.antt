@@ -1,14 +1,14 @@
 -- What a place of table 7 of a file that opens stands for, whatever the file's bytes are: a proof or a damage, and a quality
 -- or a damage.
 -- Source: the Construction document, "proving"; the order of reading is this project's own. Places count from 0.
-use Rattle.std.specs.Prelude.{◌≡◌, ℕ, ◌⊎◌, List, Result, Ok, Err}
+use Rattle.std.specs.Prelude.{◌≡◌, ℕ, ◌⊎◌, List, Option, Some, Result, Ok, Err}
 use Rattle.pos_tuple.specs.Proof.{Proof}
 use Rattle.pos_order.specs.Order.{Turning}
 use Rattle.pos_order.specs.Quality.{pair_quality, quality_index}
 use Rattle.pos_lists.specs.Walk.{walk_from, limb_from}
 use Rattle.pos_layout.specs.declared.damage.Damage.{Damage}
 use Rattle.pos_layout.specs.declared.damage.Damage.TheVariants.{NotAProof}
-use Rattle.pos_layout.specs.Layouts.{Layout}
+use Rattle.pos_layout.specs.declared.layout.Layout.{Layout}
 use Rattle.pos_layout.specs.Fields.{header_in}
 use Rattle.pos_layout.specs.Reading.{num, then_read}
 use Rattle.pos_reader.specs.declared.refusal.ReadRefusal.{ReadRefusal}
@@ -50,3 +50,8 @@ abbrev pub AnswersProof : Layout → List ℕ → List ℕ → ℕ → Result (L
 AnswersProof l b c i (Ok xs) = ShowsProof l b c i xs
 AnswersProof l b c i (Err DiskFailed) = Unit {0}
 AnswersProof l b c i (Err (Found d)) = FailsAsProof l b c i d
+
+-- the same by a source's refusals: of one that names no damage nothing is said
+abbrev pub AnswersProofBy : {E : Type 0} → (E → Option Damage) → Layout → List ℕ → List ℕ → ℕ → Result (List ℕ) E → Type 0
+AnswersProofBy found l b c i (Ok xs) = ShowsProof l b c i xs
+AnswersProofBy found l b c i (Err e) = (d : Damage) → found e ≡ Some d → FailsAsProof l b c i d

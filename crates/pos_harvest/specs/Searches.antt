@@ -2,7 +2,8 @@
 use Rattle.std.specs.Prelude.{◌≡◌, ℕ, zero, suc, ◌-◌, ◌*◌, ◌^◌, ◌<◌, ◌≤◌, List, Ok}
 use Rattle.pos_layout.specs.declared.header.Header.{Header}
 use Rattle.pos_layout.specs.Fields.{count_of}
-use Rattle.pos_layout.specs.Layouts.{Layout}
+use Rattle.pos_layout.specs.declared.layout.Layout.{Layout}
+use Rattle.pos_layout.specs.Layouts.{full_of}
 use Rattle.pos_layout.specs.Reading.{under}
 use Rattle.pos_reader.specs.Spans.{BeginsBelow, BeginsFrom, Bound, last_parks}
 
@@ -21,6 +22,6 @@ pub record IsStart (l : Layout) (b : List ℕ) (f parks place : ℕ) : Type 0 wh
   pub between : IsBetween l b f parks parks
   pub bound : Bound l b f place
   pub none : parks ≡ 0 → place ≡ 0
-  pub counts : 0 < parks → under l b (parks - 1) f ≡ Ok (place - l.full * (parks - 1))
-  pub from : l.full * (parks - 1) ≤ place
-  pub to : place ≤ l.full * parks
+  pub counts : 0 < parks → under l b (parks - 1) f ≡ Ok (place - (full_of l) * (parks - 1))
+  pub from : (full_of l) * (parks - 1) ≤ place
+  pub to : place ≤ (full_of l) * parks

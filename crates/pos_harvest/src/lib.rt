@@ -10,16 +10,22 @@
 mod branch;
 mod laws;
 mod listing;
+mod numbers;
+mod place;
+mod places;
 mod refusal;
 mod span;
 mod tuple;
 
-pub use branch::quality_at;
+pub use branch::quality_of_place;
 pub use laws::{
     a_plots_proofs_are_listed, a_plots_span_is_shown, a_whole_files_places_are_shown,
     damages_are_of_the_file, damages_have_their_causes,
 };
 pub use listing::{list_proofs, list_qualities};
+pub use numbers::Numbers;
+pub use place::{proof_at, quality_at, values_at};
+pub use places::{proofs_of_places, qualities_of_places};
 pub use refusal::ListRefusal;
 pub use span::find;
-pub use tuple::{is_turned, proof_at, values_at};
+pub use tuple::{is_turned, proof_of_place, values_of_place};

@@ -1,55 +1,52 @@
-//! The proof of a place of table 7.
-ghost use Rattle.std.specs.Prelude.{◌≡◌, ◌+◌, ◌-◌, ◌*◌, ◌^◌, ◌<◌, ◌≤◌, ℕ, List, All, Err, IfOk, IsErrOf, Ok, OnOk, length, true, false};
+//! The proof of a place of table 7, over any source of numbers.
+ghost use Rattle.std.specs.Prelude.{◌≡◌, ◌+◌, ◌-◌, ◌*◌, ◌^◌, ◌<◌, ◌≤◌, ℕ, List, All, Err, IfErr, IfOk, Ok, OnOk, Some, length, true, false};
 ghost use Rattle.pos_tuple.specs.Proof.{Proof};
 ghost use Rattle.pos_lists.specs.PlotLists.{place_in};
 ghost use Rattle.pos_lists.specs.Walk.{walk};
 ghost use Rattle.pos_layout.specs.declared.damage.Damage.{Damage};
-ghost use Rattle.pos_layout.specs.Fields.{count_of};
-ghost use Rattle.pos_layout.specs.Layouts.{own};
+ghost use Rattle.pos_layout.specs.Fields.{count_of, layout_in};
 ghost use Rattle.pos_layout.specs.Reading.{num};
 ghost use Rattle.pos_layout.specs.Rules.{IsLaidOut};
 ghost use Rattle.pos_order.specs.Order.{Turning};
-ghost use Rattle.pos_reader.specs.Answers.{Answers};
-ghost use Rattle.pos_reader.specs.Plots.{IsOpen, IsPlotFile};
-ghost use Rattle.pos_reader.specs.Readings.{IsReading};
-ghost use Rattle.pos_harvest.specs.Places.{AnswersProof, IsNoProof, tuple_at};
+ghost use Rattle.pos_reader.specs.Plots.{IsOpen};
+ghost use Rattle.pos_harvest.specs.Places.{AnswersProofBy, IsNoProof, tuple_at};
 ghost use Rattle.pos_harvest.specs.Searches.{places_of};
+ghost use Rattle.pos_harvest.specs.Sources.{AnswersBy, IsSourceRead};
 
+use crate::numbers::Numbers;
 use pos_edge::Disk;
 use pos_layout::Damage;
 use pos_order::entry_in_proof_order;
 use pos_points::from_point;
-use pos_reader::{Plot, ReadRefusal};
+use pos_reader::Plot;
 use pos_tuple::{Challenge, Size, challenge_value};
 
-/// The proof of a place of table 7, its values in the order of a proof.
+/// The proof of a place of table 7, its values in the order of a proof, over any source of the plot's numbers.
 ///
-/// Over every disk what is answered is a proof of the plot's id and size for the challenge. Over a disk that tells, the
-/// answer is by the values to which the place unfolds: their one order that is a proof, `NotAProof` exactly where none is,
-/// and the first damage on the way where there is one: of table 7, then of table 6 down, the lesser place before the greater,
-/// each with all that lies below it. At most 128 reads, and no memory.
-pub fn proof_at<D: Disk>(
-    plot: &mut Plot,
+/// What is answered is a proof of the plot's id and size for the challenge, whatever the source answers by. Where it answers by
+/// bytes, the answer is by the values to which the place unfolds in them, as `proof_at` says. At most 128 reads.
+pub fn proof_of_place<N: Numbers, D: Disk>(
+    source: &mut N,
     disk: &mut D,
     challenge: &Challenge,
     place: u64,
-) -> Result<[u64; 64], ReadRefusal>
-    requires is_open { IsOpen plot.old (D.view disk.old) }
-    requires place { place < count_of plot.old.header 7 }
-    ensures reading { IsReading 128 result plot.old plot.new (D.view disk.old) (D.view disk.new) }
-    ensures answer { (b : List ℕ) → IsPlotFile own plot.old b (D.view disk.old)
-        → AnswersProof own b challenge.now.0 place result }
+) -> Result<[u64; 64], N::Refusal>
+    requires is_open { IsOpen (N.source.plot source.old) (D.view disk.old) }
+    requires place { place < count_of (N.source.plot source.old).header 7 }
+    ensures reading { IsSourceRead N.source 128 result source.old source.new (D.view disk.old) (D.view disk.new) }
+    ensures answer { (b : List ℕ) → N.source.Serves source.old b (D.view disk.old)
+        → AnswersProofBy N.source.found (layout_in b) b challenge.now.0 place result }
 
     // over every disk
-    ensures proof { IfOk result (λ xs. Proof plot.old.header.id.0 plot.old.header.size challenge.now.0 xs) }
-    ensures small { IfOk result (λ xs. All (λ x. x < 2 ^ plot.old.header.size) xs) }
+    ensures proof { IfOk result (λ xs. Proof (N.source.plot source.old).header.id.0 (N.source.plot source.old).header.size challenge.now.0 xs) }
+    ensures small { IfOk result (λ xs. All (λ x. x < 2 ^ (N.source.plot source.old).header.size) xs) }
     ensures len { IfOk result (λ xs. length xs ≡ 64) }
 {
-    let mut values = values_at(plot, disk, place)?;
-    if is_turned(plot, challenge, &mut values) {
+    let mut values = values_of_place(source, disk, place)?;
+    if is_turned(source.plot(), challenge, &mut values) {
         Ok(values)
     } else {
-        Err(ReadRefusal::Damage(Damage::NotAProof { at: place }))
+        Err(N::damaged(Damage::NotAProof { at: place }))
     }
 }
 
@@ -69,26 +66,26 @@ pub fn is_turned(plot: &Plot, challenge: &Challenge, values: &mut [u64; 64]) -> 
     }
 }
 
-/// The 64 values to which a place of table 7 unfolds.
+/// The 64 values to which a place of table 7 unfolds, over any source of the plot's numbers.
 ///
-/// Over a disk that tells, the answer is these values, or the first damage on the way: of table 7, then of table 6 down, the
-/// lesser place before the greater, each with all that lies below it. At most 128 reads, and no memory.
-pub fn values_at<D: Disk>(
-    plot: &mut Plot,
+/// Where the source answers by bytes, the answer is these values, or the first damage on the way, as `values_at` says. At most
+/// 128 reads.
+pub fn values_of_place<N: Numbers, D: Disk>(
+    source: &mut N,
     disk: &mut D,
     place: u64,
-) -> Result<[u64; 64], ReadRefusal>
-    requires is_open { IsOpen plot.old (D.view disk.old) }
-    requires place { place < count_of plot.old.header 7 }
-    ensures reading { IsReading 128 result plot.old plot.new (D.view disk.old) (D.view disk.new) }
-    ensures small { IfOk result (λ xs. All (λ x. x < 2 ^ plot.old.header.size) xs) }
+) -> Result<[u64; 64], N::Refusal>
+    requires is_open { IsOpen (N.source.plot source.old) (D.view disk.old) }
+    requires place { place < count_of (N.source.plot source.old).header 7 }
+    ensures reading { IsSourceRead N.source 128 result source.old source.new (D.view disk.old) (D.view disk.new) }
+    ensures small { IfOk result (λ xs. All (λ x. x < 2 ^ (N.source.plot source.old).header.size) xs) }
     ensures len { IfOk result (λ xs. length xs ≡ 64) }
-    ensures values { (b : List ℕ) → IsPlotFile own plot.old b (D.view disk.old) → Answers result (tuple_at own b place) }
+    ensures values { (b : List ℕ) → N.source.Serves source.old b (D.view disk.old) → AnswersBy N.source.found result (tuple_at (layout_in b) b place) }
 {
-    let size = plot.size();
-    let number = plot.number(disk, 7, place)?;
+    let size = source.plot().size();
+    let number = source.number(disk, 7, place)?;
     let mut values = [0; 64];
-    unfold(plot, disk, 6, place_in(size, number), &mut values)?;
+    unfold(source, disk, 6, place_in(size, number), &mut values)?;
     Ok(values)
 }
 
@@ -100,32 +97,32 @@ pub(crate) fn place_in(size: Size, number: u128) -> u64
 }
 
 /// Writes the 2 ^ table values of a place of a table from 1 to 6; a value is a place of a table 0.
-fn unfold<D: Disk>(
-    plot: &mut Plot,
+fn unfold<N: Numbers, D: Disk>(
+    source: &mut N,
     disk: &mut D,
     table: u8,
     place: u64,
     values: &mut [u64],
-) -> Result<(), ReadRefusal>
-    requires is_open { IsOpen plot.old (D.view disk.old) }
-    requires laid_out { IsLaidOut own plot.old.header }
+) -> Result<(), N::Refusal>
+    requires is_open { IsOpen (N.source.plot source.old) (D.view disk.old) }
+    requires laid_out { IsLaidOut (N.source.plot source.old).header.layout (N.source.plot source.old).header }
     requires count { length values.old ≡ 2 ^ table }
     requires few { table ≤ 6 }
-    requires place { place < places_of plot.old.header table }
-    ensures reading { IsReading (2 * (2 ^ table - 1)) result plot.old plot.new (D.view disk.old) (D.view disk.new) }
-    ensures small { OnOk result (All (λ x. x < 2 ^ plot.old.header.size) values.new) }
-    ensures walked { OnOk result ((b : List ℕ) → IsPlotFile own plot.old b (D.view disk.old)
-        → walk (num own b) table place ≡ Ok values.new) }
-    ensures damage { (d : Damage) → IsErrOf result (ReadRefusal.Damage d)
-        → (b : List ℕ) → IsPlotFile own plot.old b (D.view disk.old) → walk (num own b) table place ≡ Err d }
+    requires place { place < places_of (N.source.plot source.old).header table }
+    ensures reading { IsSourceRead N.source (2 * (2 ^ table - 1)) result source.old source.new (D.view disk.old) (D.view disk.new) }
+    ensures small { OnOk result (All (λ x. x < 2 ^ (N.source.plot source.old).header.size) values.new) }
+    ensures walked { OnOk result ((b : List ℕ) → N.source.Serves source.old b (D.view disk.old)
+        → walk (num (layout_in b) b) table place ≡ Ok values.new) }
+    ensures damage { IfErr result (λ refusal. (d : Damage) → N.source.found refusal ≡ Some d
+        → (b : List ℕ) → N.source.Serves source.old b (D.view disk.old) → walk (num (layout_in b) b) table place ≡ Err d) }
 {
     if table == 0 {
         values[0] = place;
         return Ok(());
     }
-    let number = plot.number(disk, table, place)?;
+    let number = source.number(disk, table, place)?;
     let (greater, lesser) = from_point(number);
     let (left, right) = values.split_at_mut(values.len() / 2);
-    unfold(plot, disk, table - 1, lesser, left)?;
-    unfold(plot, disk, table - 1, greater, right)
+    unfold(source, disk, table - 1, lesser, left)?;
+    unfold(source, disk, table - 1, greater, right)
 }

@@ -1,7 +1,6 @@
 -- The head of the park in the middle is read, and the search goes on in one half.
 use Rattle.std.proofs.Common.{◌≡◌, ◌+◌, ◌-◌, ◌/◌, ◌<◌, ◌≤◌, List, ℕ, arith}
 use Rattle.std.proofs.lemmas.Result.{err_from_is_err_and}
-use Rattle.pos_layout.specs.Layouts.{own}
 use Rattle.pos_reader.specs.declared.refusal.ReadRefusal.TheVariants.{Damage as Found}
 use Rattle.pos_reader.specs.Plots.{IsPlotFile}
 use Rattle.pos_reader.proofs.AnswerLemmas.{damage_of}
@@ -10,6 +9,7 @@ use Rattle.pos_harvest.specs.Searches.{IsBetween}
 use Rattle.pos_harvest.proofs.CallLemmas.{if_ok}
 use Rattle.pos_harvest.proofs.SpanLemmas.{head_damage, upper_half, lower_half, between_upper, between_lower}
 use Rattle.pos_harvest.proofs.span.+parks_below.Goals as goal
+use Rattle.pos_layout.specs.Fields.{layout_in}
 
 less_of : (m n : ℕ) → m ≤ n → (m ≡ n → ⊥) → m < n
 less_of m n most apart = omega arith
@@ -32,8 +32,8 @@ returns-then-branch-f7-clause-reading g t c = λ steps fits.
 pub returns-then-branch-f7-clause-found : goal.returns-then-branch-f7-clause-found
 returns-then-branch-f7-clause-found g t c =
     if_ok c.parks_below.result
-    (λ parks. (b : List ℕ) → IsPlotFile own c.head.new.self b (g.D.Disk.view c.head.new.disk) → IsBetween own b c.args.f7 (c.args.low + (c.args.high - c.args.low) / 2 + 1) c.args.high → IsBetween own b c.args.f7 parks parks)
-    (λ parks. (b : List ℕ) → IsPlotFile own c.args.plot.now b (g.D.Disk.view c.args.disk.now) → IsBetween own b c.args.f7 c.args.low c.args.high → IsBetween own b c.args.f7 parks parks)
+    (λ parks. (b : List ℕ) → IsPlotFile c.head.new.self b (g.D.Disk.view c.head.new.disk) → IsBetween (layout_in b) b c.args.f7 (c.args.low + (c.args.high - c.args.low) / 2 + 1) c.args.high → IsBetween (layout_in b) b c.args.f7 parks parks)
+    (λ parks. (b : List ℕ) → IsPlotFile c.args.plot.now b (g.D.Disk.view c.args.disk.now) → IsBetween (layout_in b) b c.args.f7 c.args.low c.args.high → IsBetween (layout_in b) b c.args.f7 parks parks)
     (λ parks found b holds between. found b (c.in_ok-head.ensures.reading.left.stays_file b holds)
     (between_upper b c.args.f7 c.args.low c.args.high _ c.in_ok-head.field-0 (c.in_ok-head.ensures.head b holds) c.if-branch-f7.true between))
     c.parks_below.ensures.found
@@ -46,8 +46,8 @@ returns-else-branch-f7-clause-reading g t c = λ steps fits.
 pub returns-else-branch-f7-clause-found : goal.returns-else-branch-f7-clause-found
 returns-else-branch-f7-clause-found g t c =
     if_ok c.parks_below-else-branch-f7.result
-    (λ parks. (b : List ℕ) → IsPlotFile own c.head.new.self b (g.D.Disk.view c.head.new.disk) → IsBetween own b c.args.f7 c.args.low (c.args.low + (c.args.high - c.args.low) / 2) → IsBetween own b c.args.f7 parks parks)
-    (λ parks. (b : List ℕ) → IsPlotFile own c.args.plot.now b (g.D.Disk.view c.args.disk.now) → IsBetween own b c.args.f7 c.args.low c.args.high → IsBetween own b c.args.f7 parks parks)
+    (λ parks. (b : List ℕ) → IsPlotFile c.head.new.self b (g.D.Disk.view c.head.new.disk) → IsBetween (layout_in b) b c.args.f7 c.args.low (c.args.low + (c.args.high - c.args.low) / 2) → IsBetween (layout_in b) b c.args.f7 parks parks)
+    (λ parks. (b : List ℕ) → IsPlotFile c.args.plot.now b (g.D.Disk.view c.args.disk.now) → IsBetween (layout_in b) b c.args.f7 c.args.low c.args.high → IsBetween (layout_in b) b c.args.f7 parks parks)
     (λ parks found b holds between. found b (c.in_ok-head.ensures.reading.left.stays_file b holds)
     (between_lower b c.args.f7 c.args.low c.args.high _ c.in_ok-head.field-0 (c.in_ok-head.ensures.head b holds) c.if-branch-f7.false between))
     c.parks_below-else-branch-f7.ensures.found

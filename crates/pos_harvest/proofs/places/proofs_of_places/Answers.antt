@@ -1,0 +1,45 @@
+-- One place after another, each a proof or the end.
+use Rattle.std.proofs.Common.{◌∙◌, ◌+◌, ◌<◌, ◌^◌, List, ℕ, Vec, Global, All, Err, refl, sym, ap, subst, arith}
+use Rattle.std.proofs.lemmas.Result.{err_from_is_err_and}
+use Rattle.std.proofs.lemmas.List.Elements.{All-push}
+use Rattle.pos_tuple.specs.Proof.{Proof}
+use Rattle.pos_harvest.specs.Places.{ShowsProof, FailsAsProof}
+use Rattle.pos_harvest.proofs.ListingLemmas.{SoFar, far_more, far_refused, far_stops, far_unsaid}
+use Rattle.pos_harvest.specs.declared.refusal.ListRefusal.TheVariants.{Damage as ListFound}
+use Rattle.pos_harvest.proofs.SourceLemmas.{err_is}
+use Rattle.pos_harvest.proofs.places.proofs_of_places.Goals as goal
+use Rattle.pos_layout.specs.Fields.{layout_in}
+
+pub returns-in-Err-clause-listing : goal.returns-in-Err-clause-listing
+returns-in-Err-clause-listing g c =
+    far_refused g.N.Numbers.source 128 (λ b i xs. ShowsProof (layout_in b) b c.args.challenge.now.0 i xs) c.args.first _ _ c.loop-place.place c.args.second _ _ _ _ _ c.in-Err.refusal c.listed.result (Err c.listed.result)
+    (omega arith) (omega arith) c.loop-place.invariant.far c.in-Err.ensures.reading refl c.listed.ensures.failed
+
+pub returns-in-Err-clause-damage : goal.returns-in-Err-clause-damage
+returns-in-Err-clause-damage g c = λ d is b holds.
+    far_stops g.N.Numbers.source 128 (λ b i xs. ShowsProof (layout_in b) b c.args.challenge.now.0 i xs) c.args.first _ _ c.loop-place.place c.args.second _ _ _ b
+    (λ i. FailsAsProof (layout_in b) b c.args.challenge.now.0 i d) (omega arith) (omega arith) c.loop-place.invariant.far holds
+    (c.in-Err.ensures.answer b (c.loop-place.invariant.far.left.stays b holds) d ((c.listed.ensures.named d).0 (err_is {X = Vec (List ℕ) Global} c.listed.result (ListFound d) is)))
+
+pub returns-in_err-push-clause-listing : goal.returns-in_err-push-clause-listing
+returns-in_err-push-clause-listing g c =
+    let p = err_from_is_err_and c.from_residual.result c.from_residual.ensures.1 in
+    far_unsaid g.N.Numbers.source 128 (λ b i xs. ShowsProof (layout_in b) b c.args.challenge.now.0 i xs) c.args.first _ _ c.loop-place.place c.args.second _ _ _ _ _ c.in-Ok.proof c.from_residual.result
+    (omega arith) (omega arith) c.loop-place.invariant.far c.in-Ok.ensures.reading (p.1 ∙ ap (λ e. Err e) p.2)
+
+pub loop-place-preserved : goal.loop-place-preserved
+loop-place-preserved g c =
+    let header = (g.N.Numbers.source.plot c.args.source.now).header in
+    let same = ap (λ p. p.header) c.loop-place.invariant.far.left.same in
+    record {
+      far = subst (λ (out : List (List ℕ)). SoFar g.N.Numbers.source 128 (λ b i xs. ShowsProof (layout_in b) b c.args.challenge.now.0 i xs) c.args.first (c.loop-place.place + 1) c.args.source.now (g.D.Disk.view c.args.disk.now) c.proof_of_place.new.source (g.D.Disk.view c.proof_of_place.new.disk) out)
+          (sym c.in_ok-push.ensures.items)
+          (far_more g.N.Numbers.source 128 (λ b i xs. ShowsProof (layout_in b) b c.args.challenge.now.0 i xs) c.args.first _ _ c.loop-place.place _ _ _ _ _ c.in-Ok.proof (omega arith) c.loop-place.invariant.far
+          c.in-Ok.ensures.reading c.in-Ok.ensures.answer);
+      proofs = subst (λ (out : List (List ℕ)). All (λ xs. Proof header.id.0 header.size c.args.challenge.now.0 xs) out) (sym c.in_ok-push.ensures.items)
+          (All-push (λ xs. Proof header.id.0 header.size c.args.challenge.now.0 xs) c.loop-place.proofs.items c.in-Ok.proof c.loop-place.invariant.proofs
+          (subst (λ h. Proof h.id.0 h.size c.args.challenge.now.0 c.in-Ok.proof) same c.in-Ok.ensures.proof));
+      small = subst (λ (out : List (List ℕ)). All (λ xs. All (λ x. x < 2 ^ header.size) xs) out) (sym c.in_ok-push.ensures.items)
+          (All-push (λ xs. All (λ x. x < 2 ^ header.size) xs) c.loop-place.proofs.items c.in-Ok.proof c.loop-place.invariant.small
+          (subst (λ h. All (λ x. x < 2 ^ h.size) c.in-Ok.proof) same c.in-Ok.ensures.small));
+    }
