@@ -10,7 +10,6 @@ use Rattle.pos_edge.specs.declared.scratch.WorkFault.{WorkFault}
 use Rattle.pos_edge.specs.declared.scratch.WorkFault.TheVariants.{DiskFailed as WorkFailed}
 use Rattle.pos_edge.proofs.Frames.{frame_then, frame_wider, each_then}
 use Rattle.pos_edge.proofs.FaultLemmas.{Rose-since, faults_then}
-use Rattle.pos_layout.specs.Layouts.{own}
 use Rattle.pos_layout.specs.Files.{file_of}
 use Rattle.pos_layout.specs.Drafts.{Draft, WriterState, Stands, IsFinished, IsWriteFault, count_so_far, plot_of}
 use Rattle.pos_layout.specs.Images.{EachImageOf, IsShut, IsShutOr}
@@ -30,13 +29,13 @@ module _ (s : ScratchState) (w : WriterState) (a m : View) (kept : ChangesOnly (
   others n is among = other n is (name_in s n among)
 
   -- the plot file's images while scratch files are removed
-  pub shut_cleared : (p : Draft) → Stands own w p a → EachImageOf (IsShutOr (file_of own (plot_of p))) w.file a m
-  shut_cleared p stands = images_weaker IsShut (IsShutOr (file_of own (plot_of p))) w.file a m (λ image shut. inl shut)
-      (shut_beside (IsNameIn s.base s.left) (IsLeft s) w.file _ a m kept others (stands_shut own w p a stands))
+  pub shut_cleared : (p : Draft) → Stands w p a → EachImageOf (IsShutOr (file_of p.layout p.memo (plot_of p))) w.file a m
+  shut_cleared p stands = images_weaker IsShut (IsShutOr (file_of p.layout p.memo (plot_of p))) w.file a m (λ image shut. inl shut)
+      (shut_beside (IsNameIn s.base s.left) (IsLeft s) w.file _ a m kept others (stands_shut w p a stands))
 
   -- the writer stands as before
-  pub still_stands : (p : Draft) → Stands own w p a → Stands own w p m
-  still_stands p stands = stands_beside own w p (IsNameIn s.base s.left) (IsLeft s) a m kept apart others stands
+  pub still_stands : (p : Draft) → Stands w p a → Stands w p m
+  still_stands p stands = stands_beside w p (IsNameIn s.base s.left) (IsLeft s) a m kept apart others stands
 
   pub still_standing : IsStanding w a → IsStanding w m
   still_standing (p, stands) = (p, still_stands p stands)
@@ -53,16 +52,16 @@ module _ (s : ScratchState) (w : WriterState) (a m : View) (kept : ChangesOnly (
 
   module _ (standing : IsStanding w a) where
     same_name : m.name_of w.file ≡ a.name_of w.file
-    same_name = kept.name w.file (stands_live own w standing.0 a standing.1) apart (λ n is among. others n is among)
+    same_name = kept.name w.file (stands_live w standing.0 a standing.1) apart (λ n is among. others n is among)
 
     -- the plot file was finished with this answer, after all scratch files were removed
     pub closed : {X Y : Type 0} (r : Result X WorkFault) (q : Result Y WorkFault) (b : View) → SameFaults a m
-        → ((p : Draft) → Stands own w p m → Works (IsShutOr (file_of own (plot_of p))) w.file r m b)
+        → ((p : Draft) → Stands w p m → Works (IsShutOr (file_of p.layout p.memo (plot_of p))) w.file r m b)
         → IfErr q IsWriteFault → (IsErrOf q WorkFailed → Rose m.faults b.faults) → SameFaultsBut WorkFailed q m b → IsClose s w q a b
     closed r q b same works fault failed quiet = let work = works standing.0 (still_stands standing.0 standing.1) in record {
       kept = frame_then (λ n. NameOf w.file a n ⊎ IsNameIn s.base s.left n) (IsNameIn s.base s.left) (NameOf w.file m) (λ f. (f ≡ w.file) ⊎ IsLeft s f) (IsLeft s) (Just w.file) a m b
           (λ n x. inr x) (λ n x. inl (sym same_name ∙ x)) (λ f l x. inr x) (λ f l x. inl x) kept work.kept.frame;
-      images = λ p stands n is. each_then n (IsShutOr (file_of own (plot_of p))) (NameOf w.file m) (Just w.file) a m b work.kept.frame (shut_cleared p stands n is)
+      images = λ p stands n is. each_then n (IsShutOr (file_of p.layout p.memo (plot_of p))) (NameOf w.file m) (Just w.file) a m b work.kept.frame (shut_cleared p stands n is)
           ((works p (still_stands p stands)).images n (same_name ∙ is));
       fault = fault;
       failed = λ is. Rose-since a.faults m.faults b.faults kept.faults (failed is);
@@ -71,7 +70,7 @@ module _ (s : ScratchState) (w : WriterState) (a m : View) (kept : ChangesOnly (
 
     pub has_closed : (counts : Counts) (b : View) → SameOrGone a m → AreGone s m → ChangesOnly (NameOf w.file m) (Just w.file) m b → b.name_of w.file ≡ m.name_of w.file
         → ((t : ℕ) → 1 ≤ t → t ≤ 7 → slice_index counts.tables (t - 1) ≡ count_so_far w t)
-        → ((p : Draft) → Stands own w p m → IsFinished own w.file (plot_of p) counts.length b) → HasClosed s w counts a b
+        → ((p : Draft) → Stands w p m → IsFinished p.layout p.memo w.file (plot_of p) counts.length b) → HasClosed s w counts a b
     has_closed counts b same_or_gone gone frame name numbers finished = record {
       name = name ∙ same_name;
       gone = λ n among. let was : m.contents n ≡ None = cleared n among in frame.contents n (λ is. others n (sym same_name ∙ is) among) ∙ was;
@@ -84,20 +83,20 @@ module _ (s : ScratchState) (w : WriterState) (a m : View) (kept : ChangesOnly (
 
     -- it was not
     pub not_finished : {X : Type 0} (e : WorkFault) (b : View) → SameFaults a m
-        → ((p : Draft) → Stands own w p m → Works {X = X} (IsShutOr (file_of own (plot_of p))) w.file (Err e) m b) → IsClose {X = Counts} s w (Err e) a b
+        → ((p : Draft) → Stands w p m → Works {X = X} (IsShutOr (file_of p.layout p.memo (plot_of p))) w.file (Err e) m b) → IsClose {X = Counts} s w (Err e) a b
     not_finished e b same works =
         let work = works standing.0 (still_stands standing.0 standing.1) in
         closed (Err e) (Err e) b same works work.fault (λ is. let failure : e ≡ WorkFailed = cc in work.failed (ap (λ f. Err f) failure)) work.quiet
 
     -- it was
     pub is_closed : {X : Type 0} (x : X) (counts : Counts) (b : View) → SameFaults a m
-        → ((p : Draft) → Stands own w p m → Works (IsShutOr (file_of own (plot_of p))) w.file (Ok x) m b) → IsClose s w (Ok counts) a b
+        → ((p : Draft) → Stands w p m → Works (IsShutOr (file_of p.layout p.memo (plot_of p))) w.file (Ok x) m b) → IsClose s w (Ok counts) a b
     is_closed x counts b same works = closed (Ok x) (Ok counts) b same works tt (λ is. absurd (true≢false (ap (λ r. is_ok r) is))) (works standing.0 (still_stands standing.0 standing.1)).quiet
 
     pub finished_closed : {X : Type 0} (x : X) (counts : Counts) (b : View) → SameOrGone a m → AreGone s m
-        → ((p : Draft) → Stands own w p m → Works (IsShutOr (file_of own (plot_of p))) w.file (Ok x) m b)
+        → ((p : Draft) → Stands w p m → Works (IsShutOr (file_of p.layout p.memo (plot_of p))) w.file (Ok x) m b)
         → ((t : ℕ) → 1 ≤ t → t ≤ 7 → slice_index counts.tables (t - 1) ≡ count_so_far w t)
-        → ((p : Draft) → Stands own w p m → IsFinished own w.file (plot_of p) counts.length b) → HasClosed s w counts a b
+        → ((p : Draft) → Stands w p m → IsFinished p.layout p.memo w.file (plot_of p) counts.length b) → HasClosed s w counts a b
     finished_closed x counts b same_or_gone gone works numbers finished =
         let work = works standing.0 (still_stands standing.0 standing.1) in
         has_closed counts b same_or_gone gone work.kept.frame work.kept.name numbers finished

@@ -1,6 +1,6 @@
-mod StartLemmas
-mod CloseLemmas
-mod FillLemmas
-mod PlotLemmas
-mod RunLemmas
+pub mod StartLemmas
+pub mod CloseLemmas
+pub mod FillLemmas
+pub mod PlotLemmas
+pub mod RunLemmas
 mod SizeLemmas

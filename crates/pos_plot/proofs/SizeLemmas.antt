@@ -1,6 +1,7 @@
 -- The choice of a size.
 use Rattle.std.proofs.Common.{ℕ, ◌+◌, ◌^◌, ◌≤◌, ◌≡◌, List, Result, sym, ◌∙◌, subst}
 use Rattle.pos_edge.specs.View.{View}
+use Rattle.pos_layout.specs.declared.layout.Layout.{Layout}
 use Rattle.pos_plot.specs.declared.fault.PlotFault.{PlotFault}
 use Rattle.pos_plot.specs.declared.run.Counts.{Counts}
 use Rattle.pos_plot.specs.PlotRuns.{IsPlotRun}
@@ -14,7 +15,7 @@ pub plan_at : (size k n capacity : ℕ) → k ≡ size → k ≡ n → capacity 
 plan_at size k n capacity value is few = subst (λ m. capacity ≤ 2 ^ (m + 1)) (size_is size k n value is) few
 
 -- and a run for the one is a run for the other
-pub run_at : (size k n : ℕ) (id : List ℕ) (capacity : ℕ) (name base : List ℕ) (result : Result Counts PlotFault) (old new : View) → k ≡ size → k ≡ n
-    → IsPlotRun id n capacity name base result old new → IsPlotRun id size capacity name base result old new
-run_at size k n id capacity name base result old new value is run =
-    subst (λ m. IsPlotRun id m capacity name base result old new) (sym (size_is size k n value is)) run
+pub run_at : (l : Layout) (memo : List ℕ) (size k n : ℕ) (id : List ℕ) (capacity : ℕ) (name base : List ℕ) (result : Result Counts PlotFault) (old new : View) → k ≡ size → k ≡ n
+    → IsPlotRun l memo id n capacity name base result old new → IsPlotRun l memo id size capacity name base result old new
+run_at l memo size k n id capacity name base result old new value is run =
+    subst (λ m. IsPlotRun l memo id m capacity name base result old new) (sym (size_is size k n value is)) run

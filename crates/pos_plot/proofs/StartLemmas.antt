@@ -14,7 +14,7 @@ use Rattle.pos_edge.specs.declared.scratch.WorkFault.{WorkFault}
 use Rattle.pos_edge.specs.declared.scratch.WorkFault.TheVariants.{Exists as ScratchExists, DiskFailed as WorkFailed, Scratch as WorkDamage, Memory as WorkMemory}
 use Rattle.pos_edge.proofs.Frames.{frame_then, each_then, each_beside, each_weaker}
 use Rattle.pos_edge.proofs.FaultLemmas.{Rose-since}
-use Rattle.pos_layout.specs.Layouts.{own}
+use Rattle.pos_layout.specs.declared.layout.Layout.{Layout}
 use Rattle.pos_layout.specs.Drafts.{WriterState, Stands, IsWriteFault, begun}
 use Rattle.pos_layout.specs.Images.{IsTinyOrShut}
 use Rattle.pos_layout.specs.Writing.{Works, IsBegun}
@@ -121,12 +121,12 @@ pub start_went_well : {X Y : Type 0} (name : List ℕ) (file : ℕ) (x : X) (y :
 start_went_well name file x y a c b disk_c disk_b kept new same works =
     start_begun name file (Ok x) (Ok y) a c b disk_c disk_b kept new works tt (works.quiet ∙ same)
 
-pub started : {X : Type 0} (id : List ℕ) (k : ℕ) (name : List ℕ) (file : ℕ) (w : WriterState) (r : Result X WorkFault) (a c b : View) → IsDisk c → IsDisk b
-    → IsCreated name file a c → Works IsTinyOrShut file r c b → IsBegun file k w → Stands own w (begun id k) b → HasStarted id k name w a b
-started id k name file w r a c b disk_c disk_b new works begins stands = record {
+pub started : {X : Type 0} (l : Layout) (memo id : List ℕ) (k : ℕ) (name : List ℕ) (file : ℕ) (w : WriterState) (r : Result X WorkFault) (a c b : View) → IsDisk c → IsDisk b
+    → IsCreated name file a c → Works IsTinyOrShut file r c b → IsBegun file l k w → Stands w (begun l memo id k) b → HasStarted l memo id k name w a b
+started l memo id k name file w r a c b disk_c disk_b new works begins stands = record {
   absent = new.was_absent;
   fresh = ap a.is_live begins.file_is ∙ new.fresh;
-  begins = record { file_is = refl; size_is = begins.size_is; columns = begins.columns; count = begins.count; least = begins.least };
+  begins = record { file_is = refl; layout_is = begins.layout_is; size_is = begins.size_is; columns = begins.columns; count = begins.count; least = begins.least };
   stands = stands;
   named = λ n is. called name file c disk_c new.named n (sym works.kept.name ∙ (ap b.name_of (sym begins.file_is) ∙ is));
   told = λ tells. ap b.name_of begins.file_is ∙ (works.kept.name ∙ new.named (sym works.kept.frame.tells ∙ tells));

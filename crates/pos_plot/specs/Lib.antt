@@ -3,3 +3,4 @@ pub mod PlotFiles
 pub mod PlotRuns
 pub mod PlotLaws
 pub mod Steps
+pub mod Filling

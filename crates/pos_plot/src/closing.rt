@@ -10,8 +10,11 @@ use crate::Counts;
 use pos_edge::{Disk, Scratch, WorkFault};
 use pos_layout::PlotWriter;
 
-// Removes the scratch files that are left, and finishes the plot file. The gate opens last.
-pub(crate) fn close<D: Disk>(
+/// Removes the scratch files that are left, and finishes the plot file. The gate opens last.
+///
+/// The seven tables are ended, and the plot file is none of the scratch files. After a refusal the file does not open or is
+/// the finished one.
+pub fn close<D: Disk>(
     files: &mut Scratch,
     writer: PlotWriter,
     disk: &mut D,

@@ -3,12 +3,13 @@ ghost use Rattle.pos_plot.specs.PlotLaws.{APlotFileIsOne, LeaveEqualBytes};
 
 use pos_edge::Disk;
 
-/// At most one file is that of the plot of an id and a size.
+/// At most one file of a layout and a memo is that of the plot of an id and a size.
 pub fn a_plot_file_is_one()
     ensures { APlotFileIsOne }
 {}
 
-/// Any two runs for one id and size that went well over disks that tell leave equal bytes, whatever their plans and names.
+/// Any two runs for one id, size, layout and memo that went well over disks that tell leave equal bytes, whatever their plans
+/// and names.
 /// The disks are those before and after each run.
 pub fn finished_runs_leave_equal_bytes<D: Disk, E: Disk>(
     before: &D,

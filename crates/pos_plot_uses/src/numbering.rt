@@ -2,7 +2,7 @@
 ghost use Rattle.std.specs.Prelude.{◌≡◌, ◌^◌, ◌<◌, ◌≤◌, ◌++◌, ◌∷◌, [], All, IfErr, OnOk};
 
 use pos_edge::{CreateFault, Disk, MemoryDisk, ScratchDamage, WorkFault};
-use pos_layout::PlotWriter;
+use pos_layout::{Layout, PlotWriter};
 use pos_relocate::{Narrow, Pointed, Wide, number};
 use pos_tuple::{Id, Size};
 use std::alloc::Global;
@@ -30,7 +30,16 @@ fn places_of_three<P: Pointed>(alloc: Global, points: &[u128; 3]) -> Result<Vec<
         Err(CreateFault::Memory) => return Err(WorkFault::Memory),
         Err(_) => return Err(WorkFault::DiskFailed),
     };
-    let mut writer = PlotWriter::begin(alloc, file, &Id([0; 32]), Size::of(10), &mut disk)?;
+    let id = Id([0; 32]);
+    let mut writer = PlotWriter::begin(
+        alloc,
+        file,
+        Layout::Two,
+        &[],
+        &id,
+        Size::of(10),
+        &mut disk,
+    )?;
     let mut entries = Vec::new(alloc);
     push(&mut entries, P::new(points[0], 0))?;
     push(&mut entries, P::new(points[1], 2))?;

@@ -2,9 +2,9 @@
 
 use crate::plots::plot_with;
 use pos_edge::MemoryDisk;
+use pos_layout::Layout;
 use pos_plot::PlotFault;
 use pos_reader::{OpenRefusal, Plot};
-use pos_tuple::Size;
 use std::alloc::Global;
 use std::test::Fail;
 
@@ -36,7 +36,7 @@ fn leaves_no_other_plot(alloc: Global, disk: &MemoryDisk, finished: &[u8]) -> Re
 // Runs over a disk that will fail, beside another file. The run ends with that failure, the other file stays, and no image of
 // the plot's file opens but the finished one.
 fn fails_well(alloc: Global, disk: &mut MemoryDisk, finished: &[u8]) -> Result<bool, Fail> {
-    let answer = plot_with(alloc, 0, Size::of(12), disk);
+    let answer = plot_with::<MemoryDisk, 12>(alloc, 0, Layout::Two, disk);
     let left = leaves_no_other_plot(alloc, disk, finished)?;
     let kept = disk.contents("other") == Some(b"any".as_slice());
     Ok(answer == Err(PlotFault::DiskFailed) && left && kept)
@@ -61,7 +61,7 @@ fn misses_well(alloc: Global, call: u64, finished: &[u8]) -> Result<bool, Fail> 
 // A disk with the finished plot.
 fn finished_disk(alloc: Global) -> Result<MemoryDisk, Fail> {
     let mut disk = MemoryDisk::new(alloc, Vec::new(alloc));
-    match plot_with(alloc, 0, Size::of(12), &mut disk) {
+    match plot_with::<MemoryDisk, 12>(alloc, 0, Layout::Two, &mut disk) {
         Ok(_) => Ok(disk),
         Err(_) => Err(Fail::from("a plot is made where nothing fails")),
     }

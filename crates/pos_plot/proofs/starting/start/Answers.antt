@@ -5,6 +5,9 @@ use Rattle.pos_layout.proofs.ShutLemmas.{created_is_fresh}
 use Rattle.pos_plot.proofs.StartLemmas.{start_refused, start_failed, start_went_well, started}
 use Rattle.pos_plot.proofs.starting.start.Goals as goal
 
+pub begin-requires-clause-memo : goal.begin-requires-clause-memo
+begin-requires-clause-memo g c = c.requires.memo
+
 pub begin-requires-clause-fresh : goal.begin-requires-clause-fresh
 begin-requires-clause-fresh g c =
     created_is_fresh c.args.name.now c.in_ok-file.file.0 (g.D.Disk.view c.args.disk.now) (g.D.Disk.view c.create.new.self) (g.met.D.Disk.is_disk c.create.new.self) c.create.ensures.kept.clock c.in_ok-file.ensures.ok
@@ -35,6 +38,6 @@ returns g c =
     let a = g.D.Disk.view c.begin.new.disk in record {
       start = start_went_well c.args.name.now c.in_ok-file.file.0 _ c.in_ok-writer.writer o m a (g.met.D.Disk.is_disk c.create.new.self) (g.met.D.Disk.is_disk c.begin.new.disk)
           c.in_ok-file.ensures.kept c.in_ok-file.ensures.ok c.in_ok-file.ensures.quiet c.in_ok-writer.ensures.works;
-      ok = started c.args.id.now.0 c.args.size c.args.name.now c.in_ok-file.file.0 c.in_ok-writer.writer _ o m a (g.met.D.Disk.is_disk c.create.new.self) (g.met.D.Disk.is_disk c.begin.new.disk)
+      ok = started c.args.layout c.args.memo.now c.args.id.now.0 c.args.size c.args.name.now c.in_ok-file.file.0 c.in_ok-writer.writer _ o m a (g.met.D.Disk.is_disk c.create.new.self) (g.met.D.Disk.is_disk c.begin.new.disk)
           c.in_ok-file.ensures.ok c.in_ok-writer.ensures.works c.in_ok-writer.ensures.begun c.in_ok-writer.ensures.ok;
     }
