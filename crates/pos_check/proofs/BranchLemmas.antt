@@ -11,8 +11,7 @@ use Rattle.pos_laws.specs.Listing.{pair_in}
 use Rattle.pos_laws.proofs.Branches.{index_below}
 use Rattle.pos_laws.proofs.Readings.{walks_have_their_length}
 use Rattle.pos_layout.specs.declared.damage.Damage.{Damage}
-use Rattle.pos_layout.specs.Fields.{header_in}
-use Rattle.pos_layout.specs.Layouts.{own}
+use Rattle.pos_layout.specs.Fields.{header_in, layout_in}
 use Rattle.pos_layout.specs.Reading.{num, then_read}
 use Rattle.pos_harvest.specs.Places.{tuple_at, quality_in}
 
@@ -99,10 +98,10 @@ limb_from-walk num k q i ys few e =
     rw (w.1) (limb_of_walk num 5 q (place_in k w.0) ys few w.2)
 
 -- so where a place has its values, it has a quality: that of the pair of them that the challenge chooses
-pub quality_of_tuple : (b c : List ℕ) (i : ℕ) (values : List ℕ) → tuple_at own b i ≡ Ok values
-    → quality_in own b c i ≡ Ok (pair_quality (header_in b).size c (pair_in (quality_index c) values).0 (pair_in (quality_index c) values).1)
+pub quality_of_tuple : (b c : List ℕ) (i : ℕ) (values : List ℕ) → tuple_at (layout_in b) b i ≡ Ok values
+    → quality_in (layout_in b) b c i ≡ Ok (pair_quality (header_in b).size c (pair_in (quality_index c) values).0 (pair_in (quality_index c) values).1)
 unfolding tuple_at quality_in
 quality_of_tuple b c i values read =
     let k = (header_in b).size in
     ap (λ r. then_read r (λ (pair : ℕ × ℕ). Ok (pair_quality k c pair.0 pair.1)))
-    (limb_from-walk (num own b) k (quality_index c) i values (index_below c) read)
+    (limb_from-walk (num (layout_in b) b) k (quality_index c) i values (index_below c) read)

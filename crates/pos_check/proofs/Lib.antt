@@ -1,4 +1,3 @@
-pub mod AnswerLemmas
 pub mod BranchLemmas
 pub mod StepLemmas
 pub mod SurveyLemmas

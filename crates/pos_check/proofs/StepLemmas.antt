@@ -6,18 +6,11 @@ use Rattle.std.proofs.lemmas.Bool.{cases_lt}
 use Rattle.std.proofs.lemmas.List.{get_or_push, get_or_append_left, length-append, append-nil, append_assoc, map-append}
 use Rattle.std.proofs.lemmas.List.Folds.{concat-append}
 use Rattle.std.proofs.lemmas.List.Sums.{sum_by-append, sum_by-cons}
-use Rattle.std.proofs.Math.Nat.{mul-le-mul_left, mul-suc}
 use Rattle.sha2.specs.Hashers.{Holds256}
 use Rattle.sha2.specs.Sha256.{sha256}
 use Rattle.sha2.specs.declared.Sha256.{Sha256}
-use Rattle.pos_edge.specs.View.{View}
 use Rattle.pos_layout.specs.declared.damage.Damage.{Damage}
-use Rattle.pos_layout.specs.Fields.{header_in}
-use Rattle.pos_layout.specs.Layouts.{own}
-use Rattle.pos_reader.specs.declared.refusal.ReadRefusal.{ReadRefusal}
-use Rattle.pos_reader.specs.Plots.{PlotState}
-use Rattle.pos_reader.specs.Readings.{IsReading}
-use Rattle.pos_reader.proofs.ReadingLemmas.{reading_after, reading_refused, reading_done}
+use Rattle.pos_layout.specs.Fields.{header_in, layout_in}
 use Rattle.pos_harvest.specs.Listings.{IsProofListDamage, StopsListing}
 use Rattle.pos_harvest.specs.Places.{ShowsProof, FailsAsProof, quality_in}
 use Rattle.pos_check.specs.Challenges.{check_challenge}
@@ -52,35 +45,9 @@ count-push xs x =
 all-push : (xs : List (List (List ℕ))) (x : List (List ℕ)) → concat (map concat (xs ++ x ∷ [])) ≡ concat (map concat xs) ++ concat x
 all-push xs x = ap concat (map-append concat xs (x ∷ [])) ∙ concat-push (map concat xs) (concat x)
 
--- ---- reads, so many for each place or each challenge
-
-pub steps_more : (n first place : ℕ) → first ≤ place → n * (place - first) + n ≤ n * (place + 1 - first)
-steps_more n first place from =
-    let e : place + 1 - first ≡ suc (place - first) = omega arith in
-    rw (e, mul-suc) (omega arith)
-
-steps_to : (n first place second : ℕ) → first ≤ place → place < second → n * (place - first) + n ≤ n * (second - first)
-steps_to n first place second from to =
-    let a = steps_more n first place from in
-    let b : n * (place + 1 - first) ≤ n * (second - first) = mul-le-mul_left n (omega arith) in
-    omega arith
-
-pub read_more : {X Y : Type 0} (n first place : ℕ) (x : X) (y : Y) (p q r : PlotState) (a v w : View) → first ≤ place
-    → IsReading (n * (place - first)) (Ok y) p q a v → IsReading n (Ok x) q r v w → IsReading (n * (place + 1 - first)) (Ok y) p r a w
-read_more n first place x y p q r a v w from far step =
-    reading_done (n * (place + 1 - first)) (n * (place + 1 - first)) x y p r a w (omega arith)
-    (reading_after (n * (place - first)) n (n * (place + 1 - first)) y (Ok x) p q r a v w (steps_more n first place from) far step)
-
-pub read_refused : {X Y Z : Type 0} (n first place second : ℕ) (y : Y) (refusal : ReadRefusal) (result : Result Z ReadRefusal) (p q r : PlotState) (a v w : View)
-    → first ≤ place → place < second → IsReading (n * (place - first)) (Ok y) p q a v → IsReading {X = X} n (Err refusal) q r v w
-    → result ≡ Err refusal → IsReading (n * (second - first)) result p r a w
-read_refused n first place second y refusal result p q r a v w from to far step is =
-    reading_after (n * (place - first)) n (n * (second - first)) y result p q r a v w (steps_to n first place second from to) far
-    (reading_refused n n refusal result q r v w (omega arith) is step)
-
 -- ---- places
 
-pub places_none : (b c : List ℕ) (first : ℕ) (hasher : Sha256) → TakesPlaces own b c first first hasher hasher
+pub places_none : (b c : List ℕ) (first : ℕ) (hasher : Sha256) → TakesPlaces (layout_in b) b c first first hasher hasher
 places_none b c first hasher = record {
   qualities = [];
   shown = record { as_long = omega arith; each = λ j inside. absurd (omega arith) };
@@ -88,16 +55,16 @@ places_none b c first hasher = record {
   hashed = λ m holds. subst (λ m. Holds256 hasher m) (sym (append-nil m)) holds;
 }
 
-proofs_more : (b c : List ℕ) (first place : ℕ) → HaveProofs own b c first place → (xs : List ℕ) × ShowsProof own b c place xs → HaveProofs own b c first (place + 1)
+proofs_more : (b c : List ℕ) (first place : ℕ) → HaveProofs (layout_in b) b c first place → (xs : List ℕ) × ShowsProof (layout_in b) b c place xs → HaveProofs (layout_in b) b c first (place + 1)
 proofs_more b c first place before here i from to =
-    elim (cases_lt i place) as (λ _. (xs : List ℕ) × ShowsProof own b c i xs) [
+    elim (cases_lt i place) as (λ _. (xs : List ℕ) × ShowsProof (layout_in b) b c i xs) [
       | inl less ↦ before i from less
-      | inr more ↦ (let same : place ≡ i = omega arith in subst (λ i. (xs : List ℕ) × ShowsProof own b c i xs) same here)
+      | inr more ↦ (let same : place ≡ i = omega arith in subst (λ i. (xs : List ℕ) × ShowsProof (layout_in b) b c i xs) same here)
     ]
 
 pub places_more : (b c : List ℕ) (first place : ℕ) (old middle new : Sha256) (quality : List ℕ) → first ≤ place
-    → TakesPlaces own b c first place old middle → (xs : List ℕ) × ShowsProof own b c place xs → quality_in own b c place ≡ Ok quality
-    → ((m : List ℕ) → Holds256 middle m → Holds256 new (m ++ quality)) → TakesPlaces own b c first (place + 1) old new
+    → TakesPlaces (layout_in b) b c first place old middle → (xs : List ℕ) × ShowsProof (layout_in b) b c place xs → quality_in (layout_in b) b c place ≡ Ok quality
+    → ((m : List ℕ) → Holds256 middle m → Holds256 new (m ++ quality)) → TakesPlaces (layout_in b) b c first (place + 1) old new
 places_more b c first place old middle new quality from h proof shows takes =
     let long = h.shown.as_long in
     let len : length (h.qualities ++ quality ∷ []) ≡ length h.qualities + 1 = length-append h.qualities (quality ∷ []) in
@@ -106,8 +73,8 @@ places_more b c first place old middle new quality from h proof shows takes =
       qualities = h.qualities ++ quality ∷ [];
       shown = record {
         as_long = omega arith;
-        each = grown (λ j q. quality_in own b c (first + j) ≡ Ok q) [] h.qualities quality h.shown.each
-            (subst (λ i. quality_in own b c i ≡ Ok quality) (sym at) shows);
+        each = grown (λ j q. quality_in (layout_in b) b c (first + j) ≡ Ok q) [] h.qualities quality h.shown.each
+            (subst (λ i. quality_in (layout_in b) b c i ≡ Ok quality) (sym at) shows);
       };
       proofs = proofs_more b c first place h.proofs proof;
       hashed = λ m holds.
@@ -117,7 +84,7 @@ places_more b c first place old middle new quality from h proof shows takes =
 
 -- the first place that shows no proof
 pub places_stop : (b c : List ℕ) (first place second : ℕ) (old new : Sha256) (d : Damage) → first ≤ place → place < second
-    → TakesPlaces own b c first place old new → FailsAsProof own b c place d → StopsListing own b c first second d
+    → TakesPlaces (layout_in b) b c first place old new → FailsAsProof (layout_in b) b c place d → StopsListing (layout_in b) b c first second d
 places_stop b c first place second old new d from to h fails = record {
   place = place;
   from = from;
@@ -128,7 +95,7 @@ places_stop b c first place second old new d from to h fails = record {
 
 -- ---- challenges
 
-pub summary_none : (b : List ℕ) (hasher : Sha256) → Holds256 hasher [] → HoldsSummary own b 0 0 hasher
+pub summary_none : (b : List ℕ) (hasher : Sha256) → Holds256 hasher [] → HoldsSummary (layout_in b) b 0 0 hasher
 summary_none b hasher holds = record {
   lists = [];
   checked = record { as_many = refl; each = λ i inside. absurd (omega arith) };
@@ -136,8 +103,8 @@ summary_none b hasher holds = record {
   hashed = holds;
 }
 
-pub summary_more : (b : List ℕ) (n proofs count : ℕ) (old new : Sha256) → HoldsSummary own b n proofs old
-    → TakesChallenge own b (challenge_of b n) count old new → HoldsSummary own b (n + 1) (proofs + count) new
+pub summary_more : (b : List ℕ) (n proofs count : ℕ) (old new : Sha256) → HoldsSummary (layout_in b) b n proofs old
+    → TakesChallenge (layout_in b) b (challenge_of b n) count old new → HoldsSummary (layout_in b) b (n + 1) (proofs + count) new
 summary_more b n proofs count old new h t =
     let many = h.checked.as_many in
     let len : length (h.lists ++ t.qualities ∷ []) ≡ length h.lists + 1 = length-append h.lists (t.qualities ∷ []) in
@@ -146,17 +113,17 @@ summary_more b n proofs count old new h t =
       checked = record {
         as_many = omega arith;
         each = λ i inside.
-            grown (λ j q. IsChecked own b (challenge_of b j) q) [] h.lists t.qualities
+            grown (λ j q. IsChecked (layout_in b) b (challenge_of b j) q) [] h.lists t.qualities
             (λ j less. h.checked.each j (omega arith))
-            (subst (λ j. IsChecked own b (challenge_of b j) t.qualities) (sym many) t.checked)
+            (subst (λ j. IsChecked (layout_in b) b (challenge_of b j) t.qualities) (sym many) t.checked)
             i (omega arith);
       };
       counted = omega (arith, count-push h.lists t.qualities, h.counted, t.as_many);
       hashed = subst (λ m. Holds256 new m) (sym (all-push h.lists t.qualities)) (t.hashed (concat (map concat h.lists)) h.hashed);
     }
 
-pub summary_done : (b : List ℕ) (n proofs : ℕ) (hasher : Sha256) (s : Summary) → HoldsSummary own b n proofs hasher → s.challenges ≡ n → s.proofs ≡ proofs
-    → ((m : List ℕ) → Holds256 hasher m → s.digest ≡ sha256 m) → IsSummary own b n s
+pub summary_done : (b : List ℕ) (n proofs : ℕ) (hasher : Sha256) (s : Summary) → HoldsSummary (layout_in b) b n proofs hasher → s.challenges ≡ n → s.proofs ≡ proofs
+    → ((m : List ℕ) → Holds256 hasher m → s.digest ≡ sha256 m) → IsSummary (layout_in b) b n s
 summary_done b n proofs hasher s h challenges counted digest = record {
   lists = h.lists;
   checked = h.checked;
@@ -166,8 +133,8 @@ summary_done b n proofs hasher s h challenges counted digest = record {
 }
 
 -- the first challenge that has not a proof at each place
-pub summary_stops : (b : List ℕ) (i n proofs : ℕ) (hasher : Sha256) (d : Damage) → i < n → HoldsSummary own b i proofs hasher
-    → IsProofListDamage own b (challenge_of b i) d → StopsCheck own b n d
+pub summary_stops : (b : List ℕ) (i n proofs : ℕ) (hasher : Sha256) (d : Damage) → i < n → HoldsSummary (layout_in b) b i proofs hasher
+    → IsProofListDamage (layout_in b) b (challenge_of b i) d → StopsCheck (layout_in b) b n d
 summary_stops b i n proofs hasher d inside h damage = record {
   challenge = i;
   inside = inside;
@@ -182,8 +149,8 @@ pub asked_is : (b c id : List ℕ) (of : List ℕ) (i : ℕ) → c ≡ check_cha
 asked_is b c id of i is same kept = is ∙ ap (λ id. check_challenge id i) (same ∙ kept)
 
 -- so many reads for each challenge, and for each proof
-pub reads_more : (before middle after i proofs count more : ℕ) → middle ≤ before + (60 * i + 128 * proofs) → after ≤ middle + (60 + 128 * count)
-    → more ≡ count → after ≤ before + (60 * (i + 1) + 128 * (proofs + more))
+pub reads_more : (before middle after i proofs count more : ℕ) → middle ≤ before + (100 * i + 128 * proofs) → after ≤ middle + (100 + 128 * count)
+    → more ≡ count → after ≤ before + (100 * (i + 1) + 128 * (proofs + more))
 reads_more before middle after i proofs count more far step same = omega arith
 
 pub few_more : (i proofs count more : ℕ) → proofs ≤ i * 18446744073709551616 → count < 18446744073709551616 → more ≡ count

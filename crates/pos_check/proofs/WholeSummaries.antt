@@ -6,8 +6,7 @@ use Rattle.pos_lists.specs.PlotLists.{PlotLists, count}
 use Rattle.pos_laws.specs.PlotOf.{PlotOf}
 use Rattle.pos_laws.proofs.ListThere.{list_is_there}
 use Rattle.pos_layout.specs.declared.damage.Damage.{Damage}
-use Rattle.pos_layout.specs.Fields.{header_in}
-use Rattle.pos_layout.specs.Layouts.{own}
+use Rattle.pos_layout.specs.Fields.{header_in, layout_in}
 use Rattle.pos_layout.specs.Rules.{Well}
 use Rattle.pos_layout.proofs.StoredLemmas.{shown_lists}
 use Rattle.pos_harvest.specs.Places.{quality_in}
@@ -24,7 +23,7 @@ ok_list : (xs ys : List ℕ) → ◌≡◌ {A = Result (List ℕ) Damage} (Ok xs
 ok_list xs ys e = cc
 
 -- the qualities of a span are those of the one span
-same_qualities : (b : List ℕ) (p : PlotLists) (c : List ℕ) (qs rs : List (List ℕ)) → Well own b p → IsChecked own b c qs → IsChecked own b c rs → qs ≡ rs
+same_qualities : (b : List ℕ) (p : PlotLists) (c : List ℕ) (qs rs : List (List ℕ)) → Well (layout_in b) b p → IsChecked (layout_in b) b c qs → IsChecked (layout_in b) b c rs → qs ≡ rs
 same_qualities b p c qs rs well x y =
     let one = one_span b p c well.stores in
     let at = one.2.only x.first x.second x.span in
@@ -34,7 +33,7 @@ same_qualities b p c qs rs well x y =
     let long : length qs ≡ x.second - x.first = x.qualities.as_long in
     let so_long : length rs ≡ y.second - y.first = y.qualities.as_long in
     ext_get_or [] qs rs (omega arith) (λ j inside.
-    ok_list _ _ (sym (x.qualities.each j inside) ∙ ap (λ f. quality_in own b c (f + j)) first ∙ y.qualities.each j (omega arith)))
+    ok_list _ _ (sym (x.qualities.each j inside) ∙ ap (λ f. quality_in (layout_in b) b c (f + j)) first ∙ y.qualities.each j (omega arith)))
 
 same_fields : (s t : Summary) → s.challenges ≡ t.challenges → s.proofs ≡ t.proofs → s.digest ≡ t.digest → s ≡ t
 same_fields s t challenges proofs digest =
@@ -55,11 +54,11 @@ one_summary b p n s t well x y =
 
 -- ---- the plot of an id
 
-few_in_table : (b : List ℕ) (p : PlotLists) (id : List ℕ) (k : ℕ) → Well own b p → PlotOf p id k → count p 6 ≤ 2 ^ (k + 1)
-few_in_table b p id k well plot = subst (λ k. count p 6 ≤ 2 ^ (k + 1)) plot.same_size (shown_lists b p well).few
+few_in_table : (b : List ℕ) (p : PlotLists) (id : List ℕ) (k : ℕ) → Well (layout_in b) b p → PlotOf p id k → count p 6 ≤ 2 ^ (k + 1)
+few_in_table b p id k well plot = subst (λ k. count p 6 ≤ 2 ^ (k + 1)) plot.same_size (shown_lists (layout_in b) b p well).few
 
-rates_proofs : (b : List ℕ) (p : PlotLists) (id : List ℕ) (k : ℕ) (c : List ℕ) (qs : List (List ℕ)) → Well own b p → PlotOf p id k
-    → IsChecked own b c qs → RatesProofs id k c qs
+rates_proofs : (b : List ℕ) (p : PlotLists) (id : List ℕ) (k : ℕ) (c : List ℕ) (qs : List (List ℕ)) → Well (layout_in b) b p → PlotOf p id k
+    → IsChecked (layout_in b) b c qs → RatesProofs id k c qs
 rates_proofs b p id k c qs well plot x =
     let there = list_is_there p id k c plot (few_in_table b p id k well plot) in
     record {
@@ -94,13 +93,9 @@ each_challenge_is_checked b p id k n d well plot stops =
 -- ---- a whole file
 
 pub only_a_place_stops_a_check : OnlyAPlaceStopsACheck
-only_a_place_stops_a_check b p n d well stops =
-    let shown = only_a_place_without_proof b p (challenge_of b stops.challenge) d well stops.here in
-    record {
-      challenge = stops.challenge;
-      asked = stops.inside;
-      place = shown.0;
-      inside = shown.1;
-      named = shown.2;
-      never = shown.3;
-    }
+only_a_place_stops_a_check b p n d well stops = record {
+  challenge = stops.challenge;
+  asked = stops.inside;
+  before = stops.before;
+  first = only_a_place_without_proof b p (challenge_of b stops.challenge) d well stops.here;
+}

@@ -3,7 +3,7 @@ use Rattle.std.specs.Prelude.{◌≡◌, ℕ, List, ◌++◌, length, map}
 use Rattle.std.specs.List.{concat}
 use Rattle.sha2.specs.Hashers.{Holds256}
 use Rattle.sha2.specs.declared.Sha256.{Sha256}
-use Rattle.pos_layout.specs.Layouts.{Layout}
+use Rattle.pos_layout.specs.declared.layout.Layout.{Layout}
 use Rattle.pos_harvest.specs.Listings.{AreQualitiesOf}
 use Rattle.pos_check.specs.Summaries.{AreChecked, HaveProofs, IsChecked, count_all}
 

@@ -6,7 +6,7 @@ use Rattle.std.specs.List.{concat}
 use Rattle.sha2.specs.Sha256.{sha256}
 use Rattle.pos_layout.specs.declared.damage.Damage.{Damage}
 use Rattle.pos_layout.specs.Fields.{header_in}
-use Rattle.pos_layout.specs.Layouts.{Layout}
+use Rattle.pos_layout.specs.declared.layout.Layout.{Layout}
 use Rattle.pos_reader.specs.Spans.{Span}
 use Rattle.pos_harvest.specs.Listings.{AreQualitiesOf, IsProofListDamage}
 use Rattle.pos_harvest.specs.Places.{ShowsProof}

@@ -3,8 +3,7 @@ ghost use Rattle.std.specs.Prelude.{◌≡◌, ◌^◌, ◌<◌, ℕ, List, All,
 ghost use Rattle.pos_order.specs.Quality.{pair_quality, quality_index};
 ghost use Rattle.pos_laws.specs.Listing.{pair_in};
 ghost use Rattle.pos_layout.specs.declared.damage.Damage.{Damage};
-ghost use Rattle.pos_layout.specs.Fields.{count_of};
-ghost use Rattle.pos_layout.specs.Layouts.{own};
+ghost use Rattle.pos_layout.specs.Fields.{count_of, layout_in};
 ghost use Rattle.pos_reader.specs.Plots.{IsOpen, IsPlotFile};
 ghost use Rattle.pos_reader.specs.Readings.{IsReading};
 ghost use Rattle.pos_harvest.specs.Places.{FailsAsProof, ShowsProof, quality_in};
@@ -27,12 +26,12 @@ pub fn proved_quality<D: Disk>(
     requires is_open { IsOpen plot.old (D.view disk.old) }
     requires place { place < count_of plot.old.header 7 }
     ensures reading { IsReading 128 result plot.old plot.new (D.view disk.old) (D.view disk.new) }
-    ensures proof { IfOk result (λ _. (b : List ℕ) → IsPlotFile own plot.old b (D.view disk.old)
-        → (xs : List ℕ) × ShowsProof own b challenge.now.0 place xs) }
-    ensures quality { IfOk result (λ quality. (b : List ℕ) → IsPlotFile own plot.old b (D.view disk.old)
-        → quality_in own b challenge.now.0 place ≡ Ok quality) }
+    ensures proof { IfOk result (λ _. (b : List ℕ) → IsPlotFile plot.old b (D.view disk.old)
+        → (xs : List ℕ) × ShowsProof (layout_in b) b challenge.now.0 place xs) }
+    ensures quality { IfOk result (λ quality. (b : List ℕ) → IsPlotFile plot.old b (D.view disk.old)
+        → quality_in (layout_in b) b challenge.now.0 place ≡ Ok quality) }
     ensures damage { (d : Damage) → IsErrOf result (ReadRefusal.Damage d)
-        → (b : List ℕ) → IsPlotFile own plot.old b (D.view disk.old) → FailsAsProof own b challenge.now.0 place d }
+        → (b : List ℕ) → IsPlotFile plot.old b (D.view disk.old) → FailsAsProof (layout_in b) b challenge.now.0 place d }
 {
     let mut values = values_at(plot, disk, place)?;
     let quality = branch_quality(challenge, plot.size(), &values);

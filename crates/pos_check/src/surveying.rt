@@ -9,7 +9,7 @@ use crate::challenges::{MOST_CHALLENGES, survey_id};
 use crate::checking::check;
 use crate::summary::Summary;
 use pos_edge::Disk;
-use pos_layout::GREATEST_SIZE;
+use pos_layout::Layout;
 use pos_plot::{Counts, PlotFault, plot_sized};
 use pos_reader::{OpenRefusal, Plot, ReadRefusal};
 use pos_runs::Plan;
@@ -51,7 +51,7 @@ impl From<ReadRefusal> for SurveyFault {
     }
 }
 
-/// Makes the plot of a number, whose id is `survey_id`, in a file of this name and with scratch files of these names, opens it
+/// Makes the plot of a number, whose id is `survey_id`, in a file of this name, of the second layout and with no memo, and with scratch files of these names, opens it
 /// and checks it by n challenges, at most 1,000,000. Each survey of a number and a size makes the same file and the same summary.
 ///
 /// What it leaves is what a plotting run leaves; the check changes nothing. Over a disk that tells, Ok leaves the file of the
@@ -65,13 +65,22 @@ pub fn survey<D: Disk>(
     scratch: &str,
     disk: &mut D,
 ) -> Result<(Counts, Summary), SurveyFault>
-    requires size { size ≤ GREATEST_SIZE }
     requires apart { IsScratchName scratch.now name.now → ⊥ }
     requires few { n ≤ MOST_CHALLENGES }
     ensures { IsSurvey number size n name.now scratch.now result (D.view disk.old) (D.view disk.new) }
 {
     let plan = Plan::standard(size.k());
-    let counts = plot_sized(alloc, &survey_id(number), size, &plan, name, scratch, disk)?;
+    let counts = plot_sized(
+        alloc,
+        &survey_id(number),
+        size,
+        &plan,
+        Layout::Two,
+        &[],
+        name,
+        scratch,
+        disk,
+    )?;
     let summary = check_file(alloc, name, n, disk)?;
     Ok((counts, summary))
 }

@@ -2,7 +2,7 @@
 ghost use Rattle.std.specs.Prelude.{◌≤◌};
 ghost use Rattle.pos_reader.specs.Plots.{IsOpen};
 
-use crate::tests::{FILE, disk_of, small_file};
+use crate::tests::{FILE, FILE_TWO, disk_of, small_file};
 use pos_check::{
     Summary, a_plots_summary_is_of_its_proofs, a_whole_files_summary_is_one, check,
     check_challenge, survey_id,
@@ -96,6 +96,15 @@ fn a_check_counts_the_proofs_and_digests_their_qualities(rt: HostRuntime) -> Res
     finds(&rt, &mut plot, &mut disk, 10_054, 2, BOTH);
     a_plots_summary_is_of_its_proofs();
     a_whole_files_summary_is_one();
+    Ok(())
+}
+
+#[test]
+fn a_check_of_the_second_layout_finds_the_same(rt: HostRuntime) -> Result<(), Fail> {
+    let alloc = rt.alloc();
+    let mut disk = disk_of(alloc, &FILE_TWO)?;
+    let mut plot = Plot::open(alloc, &mut disk, "p")?;
+    finds(&rt, &mut plot, &mut disk, 1560, 1, ONE);
     Ok(())
 }
 

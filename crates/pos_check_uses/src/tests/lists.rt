@@ -1,7 +1,7 @@
 //! The spans, the proofs and the qualities of two small plot files.
 ghost use Rattle.pos_reader.specs.Plots.{IsOpen};
 
-use crate::tests::{FILE, disk_of, small_file};
+use crate::tests::{FILE, FILE_TWO, disk_of, small_file};
 use pos_edge::Disk;
 use pos_harvest::{
     ListRefusal, a_plots_proofs_are_listed, a_plots_span_is_shown, a_whole_files_places_are_shown,
@@ -108,21 +108,30 @@ const VALUES_QUALITY: [u8; 32] = [
     0x90, 0x70, 0x85, 0x44, 0xca, 0xec, 0xb9, 0x12, 0x5c, 0x8f, 0xc7, 0x11, 0x7d, 0xa3, 0x6b, 0x71,
 ];
 
-#[test]
-fn a_file_of_one_proof_lists_it_and_its_quality(rt: HostRuntime) -> Result<(), Fail> {
-    let alloc = rt.alloc();
-    let mut disk = disk_of(alloc, &FILE)?;
+/// The file of one proof, in either layout, lists it and its quality.
+fn lists_one_proof(rt: &impl Abort, alloc: Global, file: &[u8]) -> Result<(), Fail> {
+    let mut disk = disk_of(alloc, file)?;
     let mut plot = Plot::open(alloc, &mut disk, "p")?;
     let mut challenge = Challenge([0; 32]);
     challenge.0[0] = 0x8e;
     challenge.0[1] = 0xb0;
     let before = disk.calls();
-    lists_proofs(&rt, alloc, &mut plot, &mut disk, &challenge, &[VALUES])?;
+    lists_proofs(rt, alloc, &mut plot, &mut disk, &challenge, &[VALUES])?;
     // the head of the one park for each end of the span, the park for the second, and 64 numbers, each by two reads
     assert_eq!(rt; disk.calls().wrapping_sub(before), 132);
-    lists_qualities(&rt, alloc, &mut plot, &mut disk, &challenge, VALUES_QUALITY)?;
+    lists_qualities(rt, alloc, &mut plot, &mut disk, &challenge, VALUES_QUALITY)?;
     challenge.0[1] = 0xaf;
-    lists_proofs(&rt, alloc, &mut plot, &mut disk, &challenge, &[])
+    lists_proofs(rt, alloc, &mut plot, &mut disk, &challenge, &[])
+}
+
+#[test]
+fn a_file_of_one_proof_lists_it_and_its_quality(rt: HostRuntime) -> Result<(), Fail> {
+    lists_one_proof(&rt, rt.alloc(), &FILE)
+}
+
+#[test]
+fn a_file_of_the_second_layout_lists_the_same(rt: HostRuntime) -> Result<(), Fail> {
+    lists_one_proof(&rt, rt.alloc(), &FILE_TWO)
 }
 
 #[test]

@@ -22,7 +22,7 @@ fn a_survey_makes_and_checks_the_plot_of_a_number(rt: HostRuntime) -> Result<(),
         Ok((
             Counts {
                 tables: [1389, 869, 489, 268, 144, 81, 81],
-                length: 5600
+                length: 5656
             },
             Summary {
                 challenges: 200,

@@ -1,8 +1,9 @@
 -- One place after another, each with a proof or the end.
 use Rattle.std.proofs.Common.{◌∙◌, Err, ap, arith}
 use Rattle.std.proofs.lemmas.Result.{err_from_is_err_and}
-use Rattle.pos_check.proofs.AnswerLemmas.{handed_on}
-use Rattle.pos_check.proofs.StepLemmas.{places_more, places_stop, read_more}
+use Rattle.pos_reader.proofs.AnswerLemmas.{handed_on}
+use Rattle.pos_reader.proofs.ReadingLemmas.{read_more}
+use Rattle.pos_check.proofs.StepLemmas.{places_more, places_stop}
 use Rattle.pos_check.proofs.checking.add_places.Goals as goal
 
 pub returns-in_err-quality-clause-damage : goal.returns-in_err-quality-clause-damage
