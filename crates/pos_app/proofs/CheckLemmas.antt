@@ -2,12 +2,13 @@
 use Rattle.std.proofs.Common.{◌≡◌, ℕ, ◌+◌, ◌*◌, ◌≤◌, true, List, Some, ◌∙◌, ap, subst, inl, inr, arith}
 use Rattle.pos_edge.specs.Sinks.{Heard, followed_by}
 use Rattle.pos_edge.specs.View.{View}
+use Rattle.pos_layout.specs.Fields.{layout_in}
 use Rattle.pos_layout.specs.declared.damage.Damage.{Damage}
-use Rattle.pos_layout.specs.Layouts.{own}
 use Rattle.pos_layout.specs.Rules.{Opens}
 use Rattle.pos_layout.proofs.FileCauses.{cause_found}
 use Rattle.pos_reader.specs.Plots.{PlotState, IsPlotFile}
 use Rattle.pos_reader.specs.Readings.{IsPlotOpened}
+use Rattle.pos_reader.proofs.AnswerLemmas.{layout_said}
 use Rattle.pos_harvest.proofs.DamageLemmas.{proof_list_damage_is_of_the_file}
 use Rattle.pos_check.specs.declared.summary.Summary.{Summary}
 use Rattle.pos_check.specs.Summaries.{IsSummary, StopsCheck, challenge_of}
@@ -22,8 +23,8 @@ use Rattle.pos_app.proofs.ListLemmas.{damage_written, not_damaged, not_there, on
 -- the line of the summary of a plot that was opened is right
 pub checked_right : (file : List ℕ) (p : PlotState) (n : ℕ) (s : Summary) (text : List ℕ) (before between after : View)
     → text ≡ checked_line s.challenges s.proofs s.digest → s.challenges ≡ n → IsPlotOpened file p before between
-    → between.reads ≤ before.reads + 2 → after.reads ≤ between.reads + (60 * n + 128 * s.proofs)
-    → ((b : List ℕ) → IsPlotFile own p b between → IsSummary own b n s) → IsCheckedText file n before after text
+    → between.reads ≤ before.reads + 2 → after.reads ≤ between.reads + (100 * n + 128 * s.proofs)
+    → ((b : List ℕ) → IsPlotFile p b between → IsSummary (layout_in b) b n s) → IsCheckedText file n before after text
 checked_right file p n s text before between after is many opened two reads summed = record {
   summary = s;
   lines = is ∙ ap (λ n. checked_line n s.proofs s.digest) many;
@@ -31,7 +32,7 @@ checked_right file p n s text before between after is many opened two reads summ
   told = λ tells. let held = opened.holds tells in record {
     bytes = held.0;
     contents = held.1;
-    opens = held.2.opens;
+    opens = subst (λ l. Opens l held.0) (layout_said p.header held.0 held.2.header) held.2.opens;
     summed = summed held.0 held.2;
   };
 }
@@ -51,7 +52,7 @@ reads_for_check file n before after result old new done says =
 -- ---- the causes of a damage
 
 check_cause : (n : ℕ) (b : List ℕ) (d : Damage) → IsCheckDamage n b d → IsDamageForCheck n b d
-check_cause n b d (inl finds) = inl (cause_found own b d finds)
+check_cause n b d (inl finds) = inl (cause_found (layout_in b) b d finds)
 check_cause n b d (inr stops) =
     inr (stops.1.challenge, stops.1.inside, proof_list_damage_is_of_the_file b (challenge_of b stops.1.challenge) d stops.0 stops.1.here)
 
@@ -77,12 +78,12 @@ names_check_damage file n before after result old new tells is (inr unsaid) = le
 -- ---- over a whole file
 
 -- a damage in place of a summary of bytes that open is what ends a check
-ends_check : (b : List ℕ) (d : Damage) (n : ℕ) → Opens own b → IsCheckDamage n b d → StopsCheck own b n d
+ends_check : (b : List ℕ) (d : Damage) (n : ℕ) → Opens (layout_in b) b → IsCheckDamage n b d → StopsCheck (layout_in b) b n d
 ends_check b d n opens (inl finds) = absurd (whole_bytes b d opens finds)
 ends_check b d n opens (inr stops) = stops.1
 
 module _ (file : List ℕ) (n : ℕ) (before after : View) (result : ℕ) (old new : Heard) (held : HoldsWholeFile file before) where
-  stops_there : (b : List ℕ) (d : Damage) → before.contents file ≡ Some b → IsCheckDamage n b d → StopsCheck own held.bytes n d
+  stops_there : (b : List ℕ) (d : Damage) → before.contents file ≡ Some b → IsCheckDamage n b d → StopsCheck (layout_in held.bytes) held.bytes n d
   stops_there b d contents has =
       let same : b ≡ held.bytes = one_bytes b held.bytes _ contents held.contents in
       ends_check held.bytes d n held.well.stores.opens (subst (λ s. IsCheckDamage n s d) same has)
@@ -117,7 +118,7 @@ module _
           inl (
             shown.right.summary,
             summary_is_of_the_proofs held.whole.bytes held.whole.lists id k n shown.right.summary held.whole.well held.plot
-                (subst (λ b. IsSummary own b n shown.right.summary) same has.summed),
+                (subst (λ b. IsSummary (layout_in b) b n shown.right.summary) same has.summed),
             subst (λ s. Speaks done_status s result old new) shown.right.lines shown.said,
           )
       theirs (inr (inl stopped)) =

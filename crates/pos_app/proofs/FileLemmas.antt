@@ -1,14 +1,16 @@
 -- What a command on a plot file finds, or why it has nothing to show, and what is said then.
-use Rattle.std.proofs.Common.{◌≡◌, ℕ, ◌+◌, ◌*◌, ◌≤◌, List, length, Ok, ◌∙◌, ap, inl, inr, arith}
+use Rattle.std.proofs.Common.{◌≡◌, ℕ, ◌+◌, ◌*◌, ◌≤◌, List, length, Ok, ◌∙◌, ap, inl, inr, arith, subst}
 use Rattle.std.specs.Prelude.{All}
 use Rattle.pos_edge.specs.View.{View}
 use Rattle.pos_edge.specs.Frame.{ChangesOnly, Nothing, SameFaults}
 use Rattle.pos_edge.proofs.Frames.{frame_then}
 use Rattle.pos_tuple.specs.Proof.{Proof}
+use Rattle.pos_layout.specs.Fields.{layout_in}
 use Rattle.pos_layout.specs.declared.damage.Damage.{Damage}
-use Rattle.pos_layout.specs.Layouts.{own}
+use Rattle.pos_layout.specs.Rules.{Opens}
 use Rattle.pos_reader.specs.Plots.{PlotState, IsPlotFile}
 use Rattle.pos_reader.specs.Readings.{IsPlotOpened}
+use Rattle.pos_reader.proofs.AnswerLemmas.{layout_said}
 use Rattle.pos_harvest.specs.Listings.{ListsProofs}
 use Rattle.pos_app.specs.declared.refusal.Refusal.{Refusal}
 use Rattle.pos_app.specs.declared.refusal.Refusal.TheVariants.{Absent, DiskFailed, Damage as Damaged, Memory}
@@ -25,9 +27,8 @@ pub refusal_says : (IsRight : List ℕ → Type 0) (Has : List ℕ → Damage �
 refusal_says IsRight Has file before after Absent result old new is (inl speaks) =
     inl (inr (inr (inl (record { said = speaks; absent = is }))))
 refusal_says IsRight Has file before after Absent result old new is (inr unsaid) = inr unsaid
-refusal_says IsRight Has file before after DiskFailed result old new is (inl speaks) =
+refusal_says IsRight Has file before after DiskFailed result old new is speaks =
     inl (inr (inr (inr (record { said = speaks; cause = is }))))
-refusal_says IsRight Has file before after DiskFailed result old new is (inr unsaid) = inr unsaid
 refusal_says IsRight Has file before after (Damaged d) result old new is (inl speaks) =
     inl (inr (inl (record { damage = d; said = speaks; told = is })))
 refusal_says IsRight Has file before after (Damaged d) result old new is (inr unsaid) = inr unsaid
@@ -47,8 +48,8 @@ found_right IsRight Has file y before after right kept same = record { kept = ke
 pub proofs_right : (file c : List ℕ) (p q : PlotState) (k : ℕ) (text : List ℕ) (said proofs : List (List ℕ)) (before between after : View)
     → text ≡ proofs_text k said → said ≡ proofs → k ≡ q.header.size → q ≡ p
     → All (λ xs. Proof p.header.id.0 p.header.size c xs) proofs → IsPlotOpened file p before between
-    → between.reads ≤ before.reads + 2 → after.reads ≤ between.reads + 60 + 128 * length proofs
-    → ((b : List ℕ) → IsPlotFile own p b between → ListsProofs own b c proofs) → IsProofsText file c before after text
+    → between.reads ≤ before.reads + 2 → after.reads ≤ between.reads + 100 + 128 * length proofs
+    → ((b : List ℕ) → IsPlotFile p b between → ListsProofs (layout_in b) b c proofs) → IsProofsText file c before after text
 proofs_right file c p q k text said proofs before between after is same size left true_ones opened two many listed =
     let k_is : k ≡ p.header.size = size ∙ ap (λ r. r.header.size) left in
     record {
@@ -61,7 +62,7 @@ proofs_right file c p q k text said proofs before between after is same size lef
       told = λ tells. let held = opened.holds tells in record {
         bytes = held.0;
         contents = held.1;
-        opens = held.2.opens;
+        opens = subst (λ l. Opens l held.0) (layout_said p.header held.0 held.2.header) held.2.opens;
         same_id = ap (λ h. h.id.0) held.2.header;
         same_size = ap (λ h. h.size) held.2.header;
         listed = listed held.0 held.2;

@@ -3,9 +3,11 @@ pub mod DecimalLemmas
 pub mod DigitLemmas
 pub mod FileLemmas
 pub mod ListLemmas
+pub mod InspectLemmas
 pub mod CheckLemmas
 pub mod NameLemmas
 pub mod PlotLemmas
+pub mod ShownLemmas
 pub mod PlottingLemmas
 pub mod StatusLemmas
 pub mod SurveyWords

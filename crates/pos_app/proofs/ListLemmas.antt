@@ -4,8 +4,8 @@ use Rattle.std.proofs.Math.Seq.{take-length}
 use Rattle.std.specs.Prelude.{Option, Some, None}
 use Rattle.pos_edge.specs.Sinks.{Heard, followed_by, AppendsPartOf}
 use Rattle.pos_edge.specs.View.{View}
+use Rattle.pos_layout.specs.Fields.{layout_in}
 use Rattle.pos_layout.specs.declared.damage.Damage.{Damage}
-use Rattle.pos_layout.specs.Layouts.{own}
 use Rattle.pos_layout.specs.Rules.{Opens}
 use Rattle.pos_layout.proofs.FileCauses.{cause_found}
 use Rattle.pos_harvest.specs.PlotDamage.{IsDamage}
@@ -100,8 +100,8 @@ reads_for_qualities file c before after result old new done says =
 -- ---- over a disk that tells, a file that is not there or does not open
 
 -- bytes that open have no damage that opening finds
-pub whole_bytes : (b : List ℕ) (d : Damage) → Opens own b → IsOpeningDamage b d → ⊥
-whole_bytes b d opens damaged = let none = nothing_where_opens own b opens in let both : ◌≡◌ {A = Option Damage} None (Some d) = sym none ∙ damaged in cc
+pub whole_bytes : (b : List ℕ) (d : Damage) → Opens (layout_in b) b → IsOpeningDamage b d → ⊥
+whole_bytes b d opens damaged = let none = nothing_where_opens (layout_in b) b opens in let both : ◌≡◌ {A = Option Damage} None (Some d) = sym none ∙ damaged in cc
 
 pub one_bytes : (a b : List ℕ) (contents : Option (List ℕ)) → contents ≡ Some a → contents ≡ Some b → a ≡ b
 one_bytes a b contents e f = let both : ◌≡◌ {A = Option (List ℕ)} (Some a) (Some b) = sym e ∙ f in cc
@@ -111,30 +111,30 @@ not_there b contents e f = let both : ◌≡◌ {A = Option (List ℕ)} None (So
 
 -- what is known where the bytes are these: they open, or this is what opening finds
 abbrev ShowsOpening : List ℕ → View → Type 0
-ShowsOpening file disk = (b : List ℕ) × (disk.contents file ≡ Some b) × Opens own b
+ShowsOpening file disk = (b : List ℕ) × (disk.contents file ≡ Some b) × Opens (layout_in b) b
 
 -- the damage that was said is the one that opening finds
 damage_is : (file b : List ℕ) (d : Damage) (before after : View) (result : ℕ) (old new : Heard) (e : Damage) (a : List ℕ)
     → before.contents file ≡ Some b → IsOpeningDamage b d → Speaks damage_status (damage_line e) result old new
-    → before.contents file ≡ Some a → IsOpeningDamage a e ⊎ Opens own a → SaysUnlessFault damage_status (damage_line d) before after result old new
+    → before.contents file ≡ Some a → IsOpeningDamage a e ⊎ Opens (layout_in a) a → SaysUnlessFault damage_status (damage_line d) before after result old new
 damage_is file b d before after result old new e a held finds said contents (inl found) =
     let same : a ≡ b = one_bytes a b _ contents held in
     let found_here : IsOpeningDamage b e = subst (λ s. IsOpeningDamage s e) same found in
     let both : ◌≡◌ {A = Option Damage} (Some e) (Some d) = sym found_here ∙ finds in
     let one : e ≡ d = cc in inl (subst (λ s. Speaks damage_status (damage_line s) result old new) one said)
 damage_is file b d before after result old new e a held finds said contents (inr opens) =
-    let same : a ≡ b = one_bytes a b _ contents held in absurd (whole_bytes b d (subst (λ s. Opens own s) same opens) finds)
+    let same : a ≡ b = one_bytes a b _ contents held in absurd (whole_bytes b d (subst (λ s. Opens (layout_in s) s) same opens) finds)
 
 refuses : (IsRight : List ℕ → Type 0) (Has : List ℕ → Damage → Type 0) (file : List ℕ) (before after : View) (result : ℕ) (old new : Heard)
     → before.tells ≡ true → ((text : List ℕ) → IsRight text → ShowsOpening file before)
-    → ((b : List ℕ) (d : Damage) → Has b d → IsOpeningDamage b d ⊎ Opens own b)
+    → ((b : List ℕ) (d : Damage) → Has b d → IsOpeningDamage b d ⊎ Opens (layout_in b) b)
     → SaysOfFile IsRight Has file before after result old new → RefusesUnopened file before after result old new
 refuses IsRight Has file before after result old new tells opening_shown damage_shown (inl (inl shown)) =
     let told = opening_shown shown.text shown.right in
     record {
       absent = λ none. absurd (not_there told.0 _ none told.1);
       damaged = λ b d held finds. let same : told.0 ≡ b = one_bytes told.0 b _ told.1 held in
-          absurd (whole_bytes b d (subst (λ s. Opens own s) same told.2) finds);
+          absurd (whole_bytes b d (subst (λ s. Opens (layout_in s) s) same told.2) finds);
     }
 refuses IsRight Has file before after result old new tells opening_shown damage_shown (inl (inr (inl damage))) =
     let told = damage.told tells in
@@ -150,7 +150,7 @@ refuses IsRight Has file before after result old new tells opening_shown damage_
     record { absent = λ is. inr (inr unsaid); damaged = λ b d held finds. inr (inr unsaid) }
 
 -- a damage in place of a list is one that opening finds, or the bytes open
-list_damage : (b : List ℕ) (d : Damage) (More : Type 0) → IsOpeningDamage b d ⊎ (Opens own b × More) → IsOpeningDamage b d ⊎ Opens own b
+list_damage : (b : List ℕ) (d : Damage) (More : Type 0) → IsOpeningDamage b d ⊎ (Opens (layout_in b) b × More) → IsOpeningDamage b d ⊎ Opens (layout_in b) b
 list_damage b d More (inl finds) = inl finds
 list_damage b d More (inr listed) = inr listed.0
 
@@ -170,7 +170,7 @@ any_file (Quality name c) file before after result old new tells on says =
 any_file (Inspect name) file before after result old new tells on says =
     subst (λ n. RefusesUnopened n before after result old new) on
     (refuses (IsHeaderText name before) IsOpeningDamage name before after result old new tells
-    (λ text right. let held = right.told tells in (held.0, held.1, held.2)) (λ b d has. inl has) says)
+    (λ text right. let held = right.told tells in (held.bytes, held.contents, held.opens)) (λ b d has. inl has) says)
 any_file (CheckPlot name n) file before after result old new tells on says =
     subst (λ n. RefusesUnopened n before after result old new) on
     (refuses (IsCheckedText name n before after) (IsCheckDamage n) name before after result old new tells
@@ -192,7 +192,7 @@ damage_written text result old new is (inl said) = said.whole
 damage_written text result old new is (inr cut) = let ends = cut.status in absurd (omega arith)
 
 names : (IsRight : List ℕ → Type 0) (Has : List ℕ → Damage → Type 0) (file c : List ℕ) (before after : View) (result : ℕ) (old new : Heard)
-    → before.tells ≡ true → result ≡ damage_status → ((b : List ℕ) (d : Damage) → Has b d → IsDamage own b c d)
+    → before.tells ≡ true → result ≡ damage_status → ((b : List ℕ) (d : Damage) → Has b d → IsDamage (layout_in b) b c d)
     → SaysOfFile IsRight Has file before after result old new → NamesDamage file c before old new
 names IsRight Has file c before after result old new tells is cause (inl (inl shown)) =
     absurd (not_damaged done_status shown.text result old new (λ e. omega arith) is shown.said)
@@ -212,12 +212,12 @@ names IsRight Has file c before after result old new tells is cause (inl (inr (i
 names IsRight Has file c before after result old new tells is cause (inr unsaid) = let ends = unsaid.status in absurd (omega arith)
 
 -- what each command names is a damage of the file
-prove_cause : (b c : List ℕ) (d : Damage) → IsProveDamage c b d → IsDamage own b c d
-prove_cause b c d (inl finds) = inl (cause_found own b d finds)
+prove_cause : (b c : List ℕ) (d : Damage) → IsProveDamage c b d → IsDamage (layout_in b) b c d
+prove_cause b c d (inl finds) = inl (cause_found (layout_in b) b d finds)
 prove_cause b c d (inr listed) = proof_list_damage_is_of_the_file b c d listed.0 listed.1
 
-quality_cause : (b c : List ℕ) (d : Damage) → IsQualityDamage c b d → IsDamage own b c d
-quality_cause b c d (inl finds) = inl (cause_found own b d finds)
+quality_cause : (b c : List ℕ) (d : Damage) → IsQualityDamage c b d → IsDamage (layout_in b) b c d
+quality_cause b c d (inl finds) = inl (cause_found (layout_in b) b d finds)
 quality_cause b c d (inr listed) = inr (listed.0, inl (quality_list_damage_is_of_a_number b c d listed.0 listed.1))
 
 -- whichever command on the file it is
@@ -235,6 +235,6 @@ names_damage (Quality name challenge) file c before after result old new tells i
     (λ b d has. quality_cause b challenge d has) says))
 names_damage (Inspect name) file c before after result old new tells is on asked says =
     subst (λ n. NamesDamage n c before old new) on
-    (names (IsHeaderText name before) IsOpeningDamage name c before after result old new tells is (λ b d has. inl (cause_found own b d has)) says)
+    (names (IsHeaderText name before) IsOpeningDamage name c before after result old new tells is (λ b d has. inl (cause_found (layout_in b) b d has)) says)
 names_damage (CheckPlot name n) file c before after result old new tells is on asked says = absurd asked
 names_damage (Survey k number n name base) file c before after result old new tells is on asked says = absurd on

@@ -11,10 +11,11 @@ use Rattle.pos_plot.specs.declared.fault.Name.TheVariants.{Plot, Scratch as Scra
 use Rattle.pos_plot.specs.declared.fault.PlotFault.{PlotFault}
 use Rattle.pos_plot.specs.declared.fault.PlotFault.TheVariants.{Exists, TableFull, DiskFailed, Scratch, Memory}
 use Rattle.pos_plot.specs.declared.run.Counts.{Counts}
-use Rattle.pos_plot.specs.PlotRuns.{IsPlotRun}
+use Rattle.pos_plot.specs.PlotRuns.{IsFirstThere, IsPlotRun}
 use Rattle.pos_app.specs.Statuses.{done_status, refused_status, usage_status, disk_fault_status, damage_status, name_status, full_status, sink_fault_status, scratch_status, memory_status}
 use Rattle.pos_app.specs.Answers.{EndsWith, Says}
 use Rattle.pos_app.specs.FileAnswers.{SaysUnlessFault}
+use Rattle.pos_layout.specs.declared.layout.Layout.TheVariants.{Two}
 use Rattle.pos_app.specs.PlottingAnswers.{SaysPlotting, SaysPlotEnd, HasPlotted, EndsSafely, CanPlot, TellsPlotting, IsPlotStatus, capacity_of, counts_of}
 use Rattle.pos_app.specs.Texts.{plotted_line, exists_line, full_line, scratch_line, disk_fault_line}
 
@@ -85,21 +86,22 @@ module _ (result : ℕ) (old new : Heard) where
 
 module _ (id : List ℕ) (k : ℕ) (file base : List ℕ) (before after : View) (result : ℕ) (old new : Heard) where
   abbrev IsRun : Result Counts PlotFault → Type 0
-  IsRun answer = IsPlotRun id k (capacity_of k) file base answer before after
+  IsRun answer = IsPlotRun Two [] id k (capacity_of k) file base answer before after
 
   abbrev IsSaidOf : Result Counts PlotFault → Type 0
   IsSaidOf answer = SaysPlotEnd k file base answer result old new
 
   -- the plot is made
   plotted : (answer : Result Counts PlotFault) → IsRun answer → before.tells ≡ true → status_for answer ≡ done_status → new.text ≡ followed_by old.text (text_for k file base answer)
-      → HasPlotted id k file before after old new
+      → HasPlotted id k file base before after old new
   plotted (Ok counts) run told is text = let left = run.plotted told in record {
     bytes = left.file;
     contents = left.contents;
     only = left.only;
     is_plot = left.of_plot;
     others = run.same;
-    text = text ∙ ap (λ line. followed_by old.text line) (same_line k counts.tables (counts_of left.of_plot.plot)
+    scratch = run.absent;
+    text = text ∙ ap (λ line. followed_by old.text line) (same_line k counts.tables (counts_of left.of_plot.of_plot.plot)
         (left.numbers 1 (omega arith) (omega arith)) (left.numbers 2 (omega arith) (omega arith)) (left.numbers 3 (omega arith) (omega arith))
         (left.numbers 4 (omega arith) (omega arith)) (left.numbers 5 (omega arith) (omega arith)) (left.numbers 6 (omega arith) (omega arith))
         (left.numbers 7 (omega arith) (omega arith)));
@@ -124,10 +126,10 @@ module _ (id : List ℕ) (k : ℕ) (file base : List ℕ) (before after : View) 
 
   -- a name was there
   pub named : (answer : Result Counts PlotFault) → IsRun answer → before.tells ≡ true → status_for answer ≡ name_status → new.text ≡ followed_by old.text (text_for k file base answer)
-      → (name : List ℕ) × IsSome (before.contents name) × (new.text ≡ followed_by old.text (exists_line name)) × ((name ≡ file) ⊎ ((number : ℕ) × (name ≡ scratch_name base number)))
+      → (name : List ℕ) × IsSome (before.contents name) × (new.text ≡ followed_by old.text (exists_line name)) × ((name ≡ file) ⊎ ((number : ℕ) × (name ≡ scratch_name base number) × IsFirstThere base number before))
   named (Ok counts) run told is text = absurd (omega arith)
   named (Err (Exists Plot)) run told is text = (file, run.cause told, text, inl refl)
-  named (Err (Exists (ScratchFile number))) run told is text = (scratch_name base number, run.cause.1 told, text, inr (number, refl))
+  named (Err (Exists (ScratchFile number))) run told is text = (scratch_name base number, run.cause.there told, text, inr (number, refl, run.cause))
   named (Err (TableFull table)) run told is text = absurd (omega arith)
   named (Err DiskFailed) run told is text = absurd (omega arith)
   named (Err (Scratch damage)) run told is text = absurd (omega arith)
@@ -169,7 +171,7 @@ module _ (id : List ℕ) (k : ℕ) (file base : List ℕ) (before after : View) 
       → (Rose before.faults after.faults → ⊥) → EndsWith done_status result
   complete (Ok counts) run told is can quiet = is
   complete (Err (Exists Plot)) run told is can quiet = absurd (not_some _ can.file_absent (run.cause told))
-  complete (Err (Exists (ScratchFile number))) run told is can quiet = absurd (not_some _ (can.scratch_absent number run.cause.0) (run.cause.1 told))
+  complete (Err (Exists (ScratchFile number))) run told is can quiet = absurd (not_some _ (can.scratch_absent number run.cause.few) (run.cause.there told))
   complete (Err (TableFull table)) run told is can quiet =
       let f = run.cause told in
       let second = f.second in
@@ -230,6 +232,7 @@ module _ (id : List ℕ) (k : ℕ) (file base : List ℕ) (before after : View) 
     pub ends_safely : IsDisk after → EndsSafely id k file base before after
     ends_safely disk = record {
       others = says.run.others;
+      spares = says.run.spares;
       there = says.run.there;
       crash = says.run.images;
       left = λ none told. says.run.images none after.clock (after.contents file) says.run.others.clock (omega arith) (disk.contents_image file told);

@@ -1,11 +1,12 @@
 -- What `survey` tells by its status, and what it leaves. Of a survey as far as its plot a plotting run is told.
-use Rattle.std.proofs.Common.{◌≡◌, ℕ, ◌+◌, ◌^◌, true, List, ◌++◌, Result, Ok, Err, refl, sym, ap, ◌∙◌, inl, arith}
+use Rattle.std.proofs.Common.{◌≡◌, ℕ, ◌+◌, ◌^◌, true, List, ◌++◌, Result, Ok, Err, refl, sym, ap, ◌∙◌, inl, arith, []}
 use Rattle.std.specs.Prelude.{IsSome}
 use Rattle.pos_edge.specs.Sinks.{Heard, followed_by}
 use Rattle.pos_edge.specs.View.{View, IsDisk}
 use Rattle.pos_plot.specs.declared.fault.PlotFault.{PlotFault}
 use Rattle.pos_plot.specs.declared.fault.PlotFault.TheVariants.{Exists, TableFull, DiskFailed, Scratch, Memory}
 use Rattle.pos_plot.specs.declared.run.Counts.{Counts}
+use Rattle.pos_layout.specs.declared.layout.Layout.TheVariants.{Two}
 use Rattle.pos_plot.specs.PlotRuns.{IsPlotRun}
 use Rattle.pos_reader.specs.declared.refusal.OpenRefusal.TheVariants.{Absent, DiskFailed as OpeningFailed, Damage as OpensDamaged, Memory as NoMemory}
 use Rattle.pos_reader.specs.declared.refusal.ReadRefusal.TheVariants.{DiskFailed as ReadingFailed, Damage as ReadsDamaged}
@@ -46,18 +47,20 @@ module _ (k number n : ℕ) (file base : List ℕ) (before after : View) where
   IsRunOf answer = IsSurvey number k n file base answer before after
 
   abbrev IsRunAs : Result Counts PlotFault → Type 0
-  IsRunAs answer = IsPlotRun (survey_id number) k (2 ^ (k + 1)) file base answer before after
+  IsRunAs answer = IsPlotRun Two [] (survey_id number) k (2 ^ (k + 1)) file base answer before after
 
   -- a run that ended with a fault of the disk, or with want of memory
   run_failed : (fault : SurveyFault) → IsRunOf (Err fault) → (StopsAtOnce (Err fault) → ⊥) → (IsDiskFault fault → ⊥) → IsRunAs (Err Memory)
   run_failed fault run never quiet = record {
     others = run.others;
+    spares = run.spares;
     there = run.there;
     stops = λ some. absurd (never (run.stops some));
     images = run.images;
     cause = tt;
     quiet = λ other. run.quiet quiet;
     within = tt;
+    absent = tt;
     same = tt;
     plotted = tt;
   }
@@ -65,35 +68,41 @@ module _ (k number n : ℕ) (file base : List ℕ) (before after : View) where
   run_of : (answer : Result (Counts × Summary) SurveyFault) → IsRunOf answer → IsRunAs (plot_answer answer)
   run_of (Ok both) run = record {
     others = run.others;
+    spares = run.spares;
     there = run.there;
     stops = λ some. absurd (run.stops some);
     images = run.images;
     cause = tt;
     quiet = run.quiet (λ x. x);
     within = run.within tt;
+    absent = run.absent tt;
     same = run.same tt;
     plotted = λ told. (run.summed told).left;
   }
   run_of (Err (Plot fault)) run = record {
     others = run.others;
+    spares = run.spares;
     there = run.there;
     stops = run.stops;
     images = run.images;
     cause = run.cause;
     quiet = λ other. run.quiet (λ is. other (is_disk_fault fault is));
     within = tt;
+    absent = tt;
     same = tt;
     plotted = tt;
   }
   run_of (Err (Open Absent)) run = run_failed (Open Absent) run (λ x. x) (λ x. x)
   run_of (Err (Open OpeningFailed)) run = record {
     others = run.others;
+    spares = run.spares;
     there = run.there;
     stops = λ some. absurd (run.stops some);
     images = run.images;
     cause = run.cause;
     quiet = λ other. absurd (other refl);
     within = tt;
+    absent = tt;
     same = tt;
     plotted = tt;
   }
@@ -101,12 +110,14 @@ module _ (k number n : ℕ) (file base : List ℕ) (before after : View) where
   run_of (Err (Open NoMemory)) run = run_failed (Open NoMemory) run (λ x. x) (λ x. x)
   run_of (Err (Read ReadingFailed)) run = record {
     others = run.others;
+    spares = run.spares;
     there = run.there;
     stops = λ some. absurd (run.stops some);
     images = run.images;
     cause = run.cause;
     quiet = λ other. absurd (other refl);
     within = tt;
+    absent = tt;
     same = tt;
     plotted = tt;
   }
@@ -131,10 +142,10 @@ module _ (k number n : ℕ) (file base : List ℕ) (before after : View) (result
   ended_so (Ok both) run told said = ends result old new done_status _ said
   ended_so (Err (Plot fault)) run told said = ended result old new k file base (Err fault) said
   ended_so (Err (Open Absent)) run told said = absurd (run.cause told)
-  ended_so (Err (Open OpeningFailed)) run told said = ends result old new disk_fault_status disk_fault_line said
+  ended_so (Err (Open OpeningFailed)) run told said = ends result old new disk_fault_status disk_fault_line (inl said)
   ended_so (Err (Open (OpensDamaged d))) run told said = absurd (run.cause told)
   ended_so (Err (Open NoMemory)) run told said = inl said.status
-  ended_so (Err (Read ReadingFailed)) run told said = ends result old new disk_fault_status disk_fault_line said
+  ended_so (Err (Read ReadingFailed)) run told said = ends result old new disk_fault_status disk_fault_line (inl said)
   ended_so (Err (Read (ReadsDamaged d))) run told said = absurd (run.cause told)
 
   whole_so : (s : ℕ) (answer : Result (Counts × Summary) SurveyFault) → IsRun answer → before.tells ≡ true → result ≡ s → (s ≡ sink_fault_status → ⊥) → (s ≡ memory_status → ⊥) → IsSaidOf answer
@@ -142,16 +153,16 @@ module _ (k number n : ℕ) (file base : List ℕ) (before after : View) (result
   whole_so s (Ok both) run told is no_fault memory said = said_with result old new s done_status _ is no_fault memory said
   whole_so s (Err (Plot fault)) run told is no_fault memory said = whole result old new k file base s (Err fault) is no_fault memory said
   whole_so s (Err (Open Absent)) run told is no_fault memory said = absurd (run.cause told)
-  whole_so s (Err (Open OpeningFailed)) run told is no_fault memory said = said_with result old new s disk_fault_status disk_fault_line is no_fault memory said
+  whole_so s (Err (Open OpeningFailed)) run told is no_fault memory said = said_with result old new s disk_fault_status disk_fault_line is no_fault memory (inl said)
   whole_so s (Err (Open (OpensDamaged d))) run told is no_fault memory said = absurd (run.cause told)
   whole_so s (Err (Open NoMemory)) run told is no_fault memory said = absurd (memory (sym is ∙ said.status))
-  whole_so s (Err (Read ReadingFailed)) run told is no_fault memory said = said_with result old new s disk_fault_status disk_fault_line is no_fault memory said
+  whole_so s (Err (Read ReadingFailed)) run told is no_fault memory said = said_with result old new s disk_fault_status disk_fault_line is no_fault memory (inl said)
   whole_so s (Err (Read (ReadsDamaged d))) run told is no_fault memory said = absurd (run.cause told)
 
   -- ---- the facts of a survey, over a disk that tells
 
   surveyed : (answer : Result (Counts × Summary) SurveyFault) → IsRun answer → before.tells ≡ true → status_for (plot_answer answer) ≡ done_status
-      → new.text ≡ followed_by old.text (text_of k file base answer) → HasSurveyedPlot k number n file before after old new
+      → new.text ≡ followed_by old.text (text_of k file base answer) → HasSurveyedPlot k number n file base before after old new
   surveyed (Ok both) run told is text =
       let has = run.summed told in
       let left = has.left in
@@ -161,9 +172,10 @@ module _ (k number n : ℕ) (file base : List ℕ) (before after : View) (result
         only = left.only;
         is_plot = left.of_plot;
         others = run.same tt;
+        scratch = run.absent tt;
         summary = both.1;
         sums_up = has.sums_up;
-        text = text ∙ ap (λ line. followed_by old.text (line ++ checked_line both.1.challenges both.1.proofs both.1.digest)) (same_line k both.0.tables (counts_of left.of_plot.plot)
+        text = text ∙ ap (λ line. followed_by old.text (line ++ checked_line both.1.challenges both.1.proofs both.1.digest)) (same_line k both.0.tables (counts_of left.of_plot.of_plot.plot)
             (left.numbers 1 (omega arith) (omega arith)) (left.numbers 2 (omega arith) (omega arith)) (left.numbers 3 (omega arith) (omega arith))
             (left.numbers 4 (omega arith) (omega arith)) (left.numbers 5 (omega arith) (omega arith)) (left.numbers 6 (omega arith) (omega arith))
             (left.numbers 7 (omega arith) (omega arith)));
@@ -214,7 +226,7 @@ module _ (k number n : ℕ) (file base : List ℕ) (before after : View) (result
   never_damage (Err Memory) is = omega arith
 
   module _ (says : SaysSurvey k number n file base before after result old new) where
-    abbrev as_plot : IsPlotRun (survey_id number) k (2 ^ (k + 1)) file base (plot_answer says.answer) before after
+    abbrev as_plot : IsPlotRun Two [] (survey_id number) k (2 ^ (k + 1)) file base (plot_answer says.answer) before after
     as_plot = run_of k number n file base before after says.answer says.run
 
     -- all that the status tells over a disk that tells
@@ -246,6 +258,7 @@ module _ (k number n : ℕ) (file base : List ℕ) (before after : View) (result
     pub survey_ends_safely : IsDisk after → EndsSafely (survey_id number) k file base before after
     survey_ends_safely disk = record {
       others = says.run.others;
+      spares = says.run.spares;
       there = says.run.there;
       crash = says.run.images;
       left = λ none told. says.run.images none after.clock (after.contents file) says.run.others.clock (omega arith) (disk.contents_image file told);
@@ -263,10 +276,10 @@ module _ (k number n : ℕ) (file base : List ℕ) (before after : View) (result
       one_of_six (survey_id number) k file base before after result old new (Err fault) s done disk name is_full scratch memory
       (whole result old new k file base s (Err fault) is sink memory said).0
   other_status (Err (Open Absent)) s done disk damage name is_full scratch memory sink said is = not_with s name_status _ is sink memory (λ e. name (sym e)) said
-  other_status (Err (Open OpeningFailed)) s done disk damage name is_full scratch memory sink said is = not_with s disk_fault_status _ is sink memory (λ e. disk (sym e)) said
+  other_status (Err (Open OpeningFailed)) s done disk damage name is_full scratch memory sink said is = not_with s disk_fault_status _ is sink memory (λ e. disk (sym e)) (inl said)
   other_status (Err (Open (OpensDamaged d))) s done disk damage name is_full scratch memory sink said is = not_with s damage_status _ is sink memory (λ e. damage (sym e)) said
   other_status (Err (Open NoMemory)) s done disk damage name is_full scratch memory sink said is = memory (sym is ∙ said.status)
-  other_status (Err (Read ReadingFailed)) s done disk damage name is_full scratch memory sink said is = not_with s disk_fault_status _ is sink memory (λ e. disk (sym e)) said
+  other_status (Err (Read ReadingFailed)) s done disk damage name is_full scratch memory sink said is = not_with s disk_fault_status _ is sink memory (λ e. disk (sym e)) (inl said)
   other_status (Err (Read (ReadsDamaged d))) s done disk damage name is_full scratch memory sink said is = not_with s damage_status _ is sink memory (λ e. damage (sym e)) said
 
   pub is_survey_status : SaysSurvey k number n file base before after result old new → IsSurveyStatus result

@@ -1,7 +1,7 @@
 -- The lines of a text, one more at a time.
 use Rattle.std.proofs.Common.{◌≡◌, ℕ, zero, suc, ◌+◌, ◌<◌, List, [], ◌∷◌, ◌++◌, length, take, arith, sym, ap, ◌∙◌, append_assoc, append-nil}
-use Rattle.std.specs.Prelude.{map, slice_index, slice_index_or}
-use Rattle.pos_app.specs.Texts.{line, lines_of, table_line, table_lines}
+use Rattle.std.specs.Prelude.{slice_index}
+use Rattle.pos_app.specs.Texts.{table_line, table_lines}
 
 table_lines-push : (t i n : ℕ) (counts : List ℕ) → i < length counts → n ≡ t + i
     → table_lines t (take (suc i) counts) ≡ table_lines t (take i counts) ++ table_line n (slice_index counts i)
@@ -19,20 +19,3 @@ tables-push head old new i counts below was e =
     ∙ (append_assoc head (table_lines 1 (take i counts)) (table_line (i + 1) (slice_index counts i))
     ∙ (ap (λ s. head ++ s) (sym (table_lines-push 1 i (i + 1) counts below (omega arith)))
     ∙ let same : suc i ≡ i + 1 = omega arith in ap (λ m. head ++ table_lines 1 (take m counts)) same)))
-
--- the lines of some words, and the line of one more
-lines_of-push : (digits : List ℕ → List ℕ) (i : ℕ) (xs : List (List ℕ)) → i < length xs
-    → lines_of (map digits (take (suc i) xs)) ≡ lines_of (map digits (take i xs)) ++ line (digits (slice_index_or xs i []) ∷ [])
-lines_of-push digits i [] below = absurd (omega arith)
-lines_of-push digits zero (x ∷ xs) below = append-nil (line (digits x ∷ []))
-lines_of-push digits (suc i) (x ∷ xs) below =
-    ap (λ more. line (digits x ∷ []) ++ more) (lines_of-push digits i xs (omega arith))
-    ∙ sym (append_assoc (line (digits x ∷ [])) (lines_of (map digits (take i xs))) (line (digits (slice_index_or xs i []) ∷ [])))
-
--- a text that is the lines of some words, and the line of one more
-pub lines-push : (digits : List ℕ → List ℕ) (old new x : List ℕ) (i : ℕ) (xs : List (List ℕ)) → i < length xs → x ≡ slice_index_or xs i []
-    → old ≡ lines_of (map digits (take i xs)) → new ≡ old ++ line (digits x ∷ []) → new ≡ lines_of (map digits (take (i + 1) xs))
-lines-push digits old new x i xs below is was e =
-    e ∙ (ap (λ s. s ++ line (digits x ∷ [])) was
-    ∙ (ap (λ y. lines_of (map digits (take i xs)) ++ line (digits y ∷ [])) is
-    ∙ (sym (lines_of-push digits i xs below) ∙ let same : suc i ≡ i + 1 = omega arith in ap (λ m. lines_of (map digits (take m xs))) same)))

@@ -12,15 +12,17 @@ pub record IsCutShort (text : List ℕ) (result : ℕ) (old new : Heard) : Type 
   pub cause : Rose old.faults new.faults
   pub part : AppendsPartOf text old.text new.text
 
--- memory was wanting: nothing was written
+-- memory was wanting: nothing was written, and the sink did not fail
 pub record IsUnsaid (result : ℕ) (old new : Heard) : Type 0 where
   pub status : result ≡ memory_status
   pub nothing : new.text ≡ old.text
+  pub quiet : new.faults ≡ old.faults
 
--- the whole text was written, and this is the status
+-- the whole text was written without a failure of the sink, and this is the status
 pub record IsSaid (status : ℕ) (text : List ℕ) (result : ℕ) (old new : Heard) : Type 0 where
   pub ends : result ≡ status
   pub whole : new.text ≡ followed_by old.text text
+  pub quiet : new.faults ≡ old.faults
 
 -- the run says this text and ends with this status, but for a fault of the sink
 abbrev pub Speaks : ℕ → List ℕ → ℕ → Heard → Heard → Type 0
@@ -39,3 +41,8 @@ EndsWith status result = (result ≡ status) ⊎ ((result ≡ sink_fault_status)
 pub record TellsFaults (result : ℕ) (before after : View) : Type 0 where
   pub failed : result ≡ disk_fault_status → Rose before.faults after.faults
   pub quiet : result ≢ disk_fault_status → result ≢ sink_fault_status → SameFaults before after
+
+-- So does that of a sink's fault: it comes exactly where the sink has failed.
+pub record TellsSinkFaults (result : ℕ) (old new : Heard) : Type 0 where
+  pub failed : result ≡ sink_fault_status → Rose old.faults new.faults
+  pub quiet : result ≢ sink_fault_status → new.faults ≡ old.faults

@@ -1,20 +1,16 @@
 -- The answer of a command on a plot file: a text that is right, or why there is none. A file is known by its bytes where
 -- the disk tells them.
-use Rattle.std.specs.Prelude.{ℕ, ◌≡◌, ◌⊎◌, true, List, length, Some, None}
+use Rattle.std.specs.Prelude.{ℕ, ◌≡◌, ◌⊎◌, true, List, Some, None}
 use Rattle.pos_edge.specs.Faults.{Rose}
 use Rattle.pos_edge.specs.Sinks.{Heard, followed_by}
 use Rattle.pos_edge.specs.View.{View}
+use Rattle.pos_layout.specs.Fields.{layout_in}
 use Rattle.pos_layout.specs.declared.damage.Damage.{Damage}
-use Rattle.pos_layout.specs.Layouts.{own}
-use Rattle.pos_layout.specs.Damages.{opening}
 use Rattle.pos_harvest.specs.PlotDamage.{IsDamage}
+pub use Rattle.pos_harvest.specs.PlotDamage.{IsOpeningDamage}
 use Rattle.pos_app.specs.Statuses.{done_status, disk_fault_status, damage_status, name_status}
 use Rattle.pos_app.specs.Answers.{IsUnsaid, Speaks}
 use Rattle.pos_app.specs.Texts.{absent_line, disk_fault_line, damage_line}
-
--- the first damage that opening these bytes finds
-abbrev pub IsOpeningDamage : List ℕ → Damage → Type 0
-IsOpeningDamage b d = opening own b (length b) ≡ Some d
 
 -- a command shows a text that is right
 pub record ShowsText (IsRight : List ℕ → Type 0) (result : ℕ) (old new : Heard) : Type 0 where
@@ -64,4 +60,4 @@ pub record NamesDamage (file c : List ℕ) (disk : View) (old new : Heard) : Typ
   pub text : new.text ≡ followed_by old.text (damage_line damage)
   pub bytes : List ℕ
   pub contents : disk.contents file ≡ Some bytes
-  pub cause : IsDamage own bytes c damage
+  pub cause : IsDamage (layout_in bytes) bytes c damage

@@ -4,6 +4,7 @@ use Rattle.pos_edge.specs.Faults.{Rose}
 use Rattle.pos_edge.specs.Frame.{ChangesOnly, Nothing}
 use Rattle.pos_edge.specs.Images.{EachImage, IsOnlyImage}
 use Rattle.pos_edge.specs.ScratchNames.{scratch_name}
+use Rattle.pos_edge.specs.ScratchWork.{IsSpared}
 use Rattle.pos_edge.specs.declared.scratch.TheConstants.{MAX_SCRATCH_FILES}
 use Rattle.pos_edge.specs.Sinks.{Heard, followed_by}
 use Rattle.pos_edge.specs.View.{View}
@@ -13,8 +14,10 @@ use Rattle.pos_plot.specs.declared.fault.Name.TheVariants.{Plot, Scratch as Scra
 use Rattle.pos_plot.specs.declared.fault.PlotFault.{PlotFault}
 use Rattle.pos_plot.specs.declared.fault.PlotFault.TheVariants.{Exists, TableFull, DiskFailed, Scratch, Memory}
 use Rattle.pos_plot.specs.declared.run.Counts.{Counts}
-use Rattle.pos_plot.specs.PlotFiles.{IsFileOfPlot, OpensAs}
-use Rattle.pos_plot.specs.PlotRuns.{IsPlotRun, IsRunName}
+use Rattle.pos_plot.specs.declared.run.TheConstants.{SCRATCH_FILES}
+use Rattle.pos_layout.specs.declared.layout.Layout.TheVariants.{Two}
+use Rattle.pos_plot.specs.PlotFiles.{IsNew, OpensAs}
+use Rattle.pos_plot.specs.PlotRuns.{IsFirstThere, IsPlotRun, IsRunName}
 use Rattle.pos_app.specs.Statuses.{done_status, refused_status, usage_status, disk_fault_status, damage_status, name_status, full_status, scratch_status}
 use Rattle.pos_app.specs.Answers.{EndsWith, IsUnsaid, Says, Speaks}
 use Rattle.pos_app.specs.FileAnswers.{SaysUnlessFault}
@@ -40,10 +43,10 @@ abbrev pub SaysPlotEnd : ℕ → List ℕ → List ℕ → Result Counts PlotFau
 SaysPlotEnd k file base (Ok counts) result old new = Says done_status (plotted_line k counts.tables) result old new
 SaysPlotEnd k file base (Err fault) result old new = SaysPlotFault file base fault result old new
 
--- the answer of `plot ID K FILE SCRATCH`: one plotting run was made, and how it ended is said
+-- the answer of `plot ID K FILE SCRATCH`: one plotting run was made, in layout 2 without a memo, and how it ended is said
 pub record SaysPlotting (id : List ℕ) (k : ℕ) (file base : List ℕ) (before after : View) (result : ℕ) (old new : Heard) : Type 0 where
   pub answer : Result Counts PlotFault
-  pub run : IsPlotRun id k (capacity_of k) file base answer before after
+  pub run : IsPlotRun Two [] id k (capacity_of k) file base answer before after
   pub said : SaysPlotEnd k file base answer result old new
 
 -- ---- what follows, over a disk that tells
@@ -52,31 +55,34 @@ pub record SaysPlotting (id : List ℕ) (k : ℕ) (file base : List ℕ) (before
 abbrev pub counts_of : PlotLists → List ℕ
 counts_of p = count p 1 ∷ count p 2 ∷ count p 3 ∷ count p 4 ∷ count p 5 ∷ count p 6 ∷ count p 7 ∷ []
 
--- The plot is made: under the name stands the file of the plot of the id and the size, and a crash leaves just it. Each
--- other name holds what it held, and the counts of the file's tables are said.
-pub record HasPlotted (id : List ℕ) (k : ℕ) (file : List ℕ) (before after : View) (old new : Heard) : Type 0 where
+-- The plot is made: under the name stands the new file of the plot of the id and the size, and a crash leaves just it. Each
+-- other name holds what it held, none of the scratch names was there, and the counts of the file's tables are said.
+pub record HasPlotted (id : List ℕ) (k : ℕ) (file base : List ℕ) (before after : View) (old new : Heard) : Type 0 where
   pub bytes : List ℕ
   pub contents : after.contents file ≡ Some bytes
   pub only : IsOnlyImage file (Some bytes) after
-  pub is_plot : IsFileOfPlot bytes id k
+  pub is_plot : IsNew bytes id k
   pub others : (name : List ℕ) → (name ≡ file → ⊥) → after.contents name ≡ before.contents name
-  pub text : new.text ≡ followed_by old.text (plotted_line k (counts_of is_plot.plot))
+  pub scratch : (number : ℕ) → number < SCRATCH_FILES → before.contents (scratch_name base number) ≡ None
+  pub text : new.text ≡ followed_by old.text (plotted_line k (counts_of is_plot.of_plot.plot))
 
--- Whatever ends the run: no name but the file's and those of scratch files is written, and where the file's name was there,
--- no file is changed or made. Where it was absent, at each moment what a crash leaves under it doesn't open or is the file of
--- the plot of the id and the size; so is, over a disk that tells images, what stands there in the end.
+-- Whatever ends the run: no name but the file's and those of scratch files is written, each name but the file's that was there
+-- holds what it held, at each moment and after a crash, and where the file's name was there, no file is changed or made. Where
+-- it was absent, at each moment what a crash leaves under it doesn't open or is the new file of the plot of the id and the size;
+-- so is, over a disk that tells images, what stands there in the end.
 pub record EndsSafely (id : List ℕ) (k : ℕ) (file base : List ℕ) (before after : View) : Type 0 where
   pub others : ChangesOnly (IsRunName file base) Nothing before after
+  pub spares : (name : List ℕ) → (name ≡ file → ⊥) → IsSome (before.contents name) → IsSpared name before after
   pub there : IsSome (before.contents file) → ChangesOnly Nothing Nothing before after
-  pub crash : before.contents file ≡ None → EachImage file (OpensAs id k) before after
-  pub left : before.contents file ≡ None → after.tells_images ≡ true → OpensAs id k (after.contents file)
+  pub crash : before.contents file ≡ None → EachImage file (OpensAs Two [] id k) before after
+  pub left : before.contents file ≡ None → after.tells_images ≡ true → OpensAs Two [] id k (after.contents file)
 
 -- which status says that a name is there: that of the file, which has it said but for a fault of the disk or of the sink and
--- want of memory; or that of a scratch file
+-- want of memory; or that of the first of the scratch files that was
 pub record TellsNames (file base : List ℕ) (before after : View) (result : ℕ) (old new : Heard) : Type 0 where
   pub there : IsSome (before.contents file) → SaysUnlessFault name_status (exists_line file) before after result old new
   pub named : result ≡ name_status → (name : List ℕ) × IsSome (before.contents name) × (new.text ≡ followed_by old.text (exists_line name))
-      × ((name ≡ file) ⊎ ((number : ℕ) × (name ≡ scratch_name base number)))
+      × ((name ≡ file) ⊎ ((number : ℕ) × (name ≡ scratch_name base number) × IsFirstThere base number before))
 
 -- The status of a full table names the first table that has more than 2^(k + 1) entries. It comes where there is one, but for
 -- a fault of the disk or of the sink, want of memory and a name that is there.
@@ -94,7 +100,7 @@ pub record CanPlot (id : List ℕ) (k : ℕ) (file base : List ℕ) (before : Vi
 -- All that the status tells over a disk that tells: a plot that is made, names, a full table; no scratch file is damaged; and
 -- where the plot can be made and the disk doesn't fail it is made, but for a fault of the sink and want of memory.
 pub record TellsPlotting (id : List ℕ) (k : ℕ) (file base : List ℕ) (before after : View) (result : ℕ) (old new : Heard) : Type 0 where
-  pub plotted : result ≡ done_status → HasPlotted id k file before after old new
+  pub plotted : result ≡ done_status → HasPlotted id k file base before after old new
   pub names : TellsNames file base before after result old new
   pub full : TellsFullTable id k result old new
   pub undamaged : result ≢ scratch_status

@@ -27,22 +27,15 @@ meant (Survey made) = MeantSurvey made.size made.number made.challenges made.nam
 abbrev pub AreOutputNames : Names → Type 0
 AreOutputNames names = IsFalse (begins_as_scratch names.base.now names.file.now)
 
--- a plot file can have this size, and the two names are apart
-pub record IsMakeable (making : Making) : Type 0 where
-  pub greatest : making.size ≤ 32
-  pub apart : AreOutputNames making.names
-
--- and its challenges are not too many
+-- the challenges are not too many, and the two names are apart
 pub record IsSurveyable (made : Surveyed) : Type 0 where
-  pub greatest : made.size ≤ 32
   pub few : made.challenges ≤ 1000000
   pub apart : AreOutputNames made.names
 
--- its proof is an even number of digits, its size and its names are those of a plot, its challenges
--- are not too many
+-- its proof is an even number of digits, its names are those of a plot that can be made, its challenges are not too many
 abbrev pub IsObeyable : Command → Type 0
 IsObeyable (Verify judged) = IsSome (bytes_word judged.proof.now)
-IsObeyable (MakePlot making) = IsMakeable making
+IsObeyable (MakePlot making) = AreOutputNames making.names
 IsObeyable (Prove question) = Unit {0}
 IsObeyable (Quality question) = Unit {0}
 IsObeyable (Inspect file) = Unit {0}

@@ -15,7 +15,7 @@ use Rattle.pos_app.specs.declared.refusal.Refusal.{Refusal}
 use Rattle.pos_app.specs.declared.refusal.Refusal.TheVariants.{Absent, DiskFailed, Damage as Damaged, Memory}
 use Rattle.pos_app.specs.Statuses.{disk_fault_status, damage_status, name_status}
 use Rattle.pos_edge.specs.Sinks.{Heard}
-use Rattle.pos_app.specs.Answers.{IsUnsaid, Says}
+use Rattle.pos_app.specs.Answers.{IsUnsaid, Says, Speaks}
 use Rattle.pos_app.specs.Texts.{absent_line, disk_fault_line, damage_line}
 
 -- why no plot was opened, as a command's refusal
@@ -55,6 +55,6 @@ pub record Finds {X : Type 0} (IsRight : X → Type 0) (Has : List ℕ → Damag
 -- what is said of it, and with which status
 abbrev pub SaysRefusal : List ℕ → Refusal → ℕ → Heard → Heard → Type 0
 SaysRefusal file Absent result old new = Says name_status (absent_line file) result old new
-SaysRefusal file DiskFailed result old new = Says disk_fault_status disk_fault_line result old new
+SaysRefusal file DiskFailed result old new = Speaks disk_fault_status disk_fault_line result old new
 SaysRefusal file (Damaged d) result old new = Says damage_status (damage_line d) result old new
 SaysRefusal file Memory result old new = IsUnsaid result old new

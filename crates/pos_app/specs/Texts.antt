@@ -1,24 +1,16 @@
 -- The lines that the program writes: words with one blank between two of them, and one newline at the end. Numbers are
 -- decimal without leading zeros, bytes are hexadecimal in lower case.
-use Rattle.std.specs.Prelude.{ℕ, suc, List, [], ◌∷◌, ◌++◌, codes, length, map, slice_index}
+use Rattle.std.specs.Prelude.{ℕ, suc, ◌==◌, if◌then◌else◌, List, [], ◌∷◌, ◌++◌, codes, length, slice_index}
 use Rattle.std.specs.Fmt.{decimal}
 use Rattle.hex.specs.Hex.{encode_lower}
 use Rattle.pos_edge.specs.declared.scratch.ScratchDamage.{ScratchDamage}
-use Rattle.pos_order.specs.Values.{value_bytes}
 use Rattle.pos_layout.specs.declared.header.Header.{Header}
+use Rattle.pos_layout.specs.declared.layout.Layout.{Layout}
+use Rattle.pos_layout.specs.declared.layout.Layout.TheVariants.{One, Two}
 use Rattle.pos_layout.specs.Fields.{count_of}
-use Rattle.pos_layout.specs.declared.damage.HeaderField.{HeaderField}
-use Rattle.pos_layout.specs.declared.damage.HeaderField.TheVariants.{Name, Size, Zeros, Counts}
-use Rattle.pos_layout.specs.declared.damage.Damage.{Damage}
-use Rattle.pos_layout.specs.declared.damage.Damage.TheVariants.{NotOpen, Header as WrongHeader, Length, Directory, Digest, Form, Pointer, NotAProof}
 use Rattle.pos_verify.specs.declared.Verdict.{Verdict}
 use Rattle.pos_verify.specs.declared.Verdict.TheVariants.{Accepted, WrongLength, NoMatch, WrongChallenge}
-
--- the line of some words; 32 is a blank, 10 a newline
-abbrev pub line : List (List ℕ) → List ℕ
-line [] = 10 ∷ []
-line (word ∷ []) = word ++ 10 ∷ []
-line (word ∷ next ∷ words) = word ++ (32 ∷ line (next ∷ words))
+pub use Rattle.pos_text.specs.Texts.{line, lines_of, proofs_text, qualities_text, field_name, damage_words, damage_line}
 
 -- what is said where the words are no command
 abbrev pub usage_line : List ℕ
@@ -70,27 +62,25 @@ abbrev pub header_lines : List ℕ → ℕ → List ℕ → ℕ → List ℕ
 header_lines id k counts file_length =
     id_line id ++ (size_line k ++ (table_lines 1 counts ++ length_line file_length))
 
--- what is said of the header of a plot file
-abbrev pub inspect_text : Header → List ℕ
-inspect_text h =
+-- the line of a memo, which may be empty
+abbrev pub memo_line : List ℕ → List ℕ
+memo_line memo = if length memo == 0 then line (codes "memo" ∷ []) else line (codes "memo" ∷ encode_lower memo ∷ [])
+
+-- the lines of a layout: the first one has none, so that what is said of a file of it stays
+abbrev pub layout_lines : Layout → List ℕ → List ℕ
+layout_lines One memo = []
+layout_lines Two memo = line (codes "layout" ∷ codes "2" ∷ []) ++ memo_line memo
+
+-- the lines of a header in either layout
+abbrev pub header_part : Header → List ℕ
+header_part h =
     header_lines h.id.0 h.size
     (count_of h 1 ∷ count_of h 2 ∷ count_of h 3 ∷ count_of h 4 ∷ count_of h 5 ∷ count_of h 6 ∷ count_of h 7 ∷ [])
     h.file_length
 
--- a line for each word
-abbrev pub lines_of : List (List ℕ) → List ℕ
-lines_of [] = []
-lines_of (word ∷ words) = line (word ∷ []) ++ lines_of words
-
--- what is said of proofs of size k: the bytes of each on a line, and then how many they are
-abbrev pub proofs_text : ℕ → List (List ℕ) → List ℕ
-proofs_text k proofs =
-    lines_of (map (λ xs. encode_lower (value_bytes k xs)) proofs) ++ line (decimal (length proofs) ∷ codes "proofs" ∷ [])
-
--- what is said of qualities: each on a line, and then how many they are
-abbrev pub qualities_text : List (List ℕ) → List ℕ
-qualities_text qualities =
-    lines_of (map encode_lower qualities) ++ line (decimal (length qualities) ∷ codes "qualities" ∷ [])
+-- what is said of the header and the memo of a plot file
+abbrev pub inspect_text : Header → List ℕ → List ℕ
+inspect_text h memo = header_part h ++ layout_lines h.layout memo
 
 -- what is said of a plot that was tested by n challenges: how many proofs it has for them, and the digest of their qualities
 abbrev pub checked_line : ℕ → ℕ → List ℕ → List ℕ
@@ -106,24 +96,3 @@ exists_line name = line (codes "exists" ∷ name ∷ [])
 
 abbrev pub disk_fault_line : List ℕ
 disk_fault_line = line (codes "disk" ∷ codes "fault" ∷ [])
-
--- a field of the header
-abbrev pub field_name : HeaderField → List ℕ
-field_name Name = codes "name"
-field_name Size = codes "size"
-field_name Zeros = codes "zeros"
-field_name Counts = codes "counts"
-
--- what is said of a damage
-abbrev pub damage_words : Damage → List (List ℕ)
-damage_words (NotOpen file_length gate) = codes "not-open" ∷ decimal file_length ∷ decimal gate ∷ []
-damage_words (WrongHeader field) = codes "header" ∷ field_name field ∷ []
-damage_words (Length said found) = codes "length" ∷ decimal said ∷ decimal found ∷ []
-damage_words (Directory table park) = codes "directory" ∷ decimal table ∷ decimal park ∷ []
-damage_words (Digest table park) = codes "digest" ∷ decimal table ∷ decimal park ∷ []
-damage_words (Form table park) = codes "form" ∷ decimal table ∷ decimal park ∷ []
-damage_words (Pointer table at) = codes "pointer" ∷ decimal table ∷ decimal at ∷ []
-damage_words (NotAProof at) = codes "not-a-proof" ∷ decimal at ∷ []
-
-abbrev pub damage_line : Damage → List ℕ
-damage_line d = line (codes "damage" ∷ damage_words d)

@@ -16,9 +16,9 @@ is_decimal word =
 abbrev pub decimal_word : List ℕ → Option ℕ
 decimal_word word = if is_decimal word then Some (digits_value 10 word) else None
 
--- a size k, from 10 to 32
+-- a size k, from 10 to 50
 abbrev pub size_word : List ℕ → Option ℕ
-size_word word = option_and_then (λ k. if nat_le 10 k && nat_le k 32 then Some k else None) (decimal_word word)
+size_word word = option_and_then (λ k. if nat_le 10 k && nat_le k 50 then Some k else None) (decimal_word word)
 
 -- how many challenges a check asks for, at most 1,000,000
 abbrev pub challenges_word : List ℕ → Option ℕ

@@ -301,8 +301,7 @@ fn is_digit(byte: u8) -> bool
 
 // A size in decimal.
 fn read_size(word: &str) -> Option<Size>
-    ensures read { result ≡ size_word word.now }
-    ensures greatest { IfSome result (λ size. size ≤ 32) }
+    ensures { result ≡ size_word word.now }
 {
     Size::new(read_decimal(word)?)
 }

@@ -2,7 +2,6 @@
 #![tactic(auto)]
 
 mod command;
-mod list_text;
 mod plotting;
 mod program;
 mod refusal;

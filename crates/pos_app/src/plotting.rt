@@ -3,9 +3,9 @@ ghost use Rattle.std.specs.Prelude.{◌≡◌, ◌≢◌, ◌^◌, ◌+◌, ◌�
 ghost use Rattle.pos_edge.specs.Frame.{ChangesOnly, Nothing};
 ghost use Rattle.pos_plot.specs.PlotRuns.{IsRunName};
 ghost use Rattle.pos_app.specs.Statuses.{disk_fault_status, sink_fault_status};
-ghost use Rattle.pos_app.specs.Answers.{TellsFaults};
+ghost use Rattle.pos_app.specs.Answers.{TellsFaults, TellsSinkFaults};
 ghost use Rattle.pos_app.specs.PlottingAnswers.{SaysPlotting, SaysPlotEnd, SaysPlotFault};
-ghost use Rattle.pos_app.specs.Read.{IsMakeable};
+ghost use Rattle.pos_app.specs.Read.{AreOutputNames};
 
 use crate::command::{Making, Names};
 use crate::saying::{
@@ -15,6 +15,7 @@ use crate::text::{
     DISK_FAULT_LINE, exists_line, full_line, plotted_line, scratch_exists_line, scratch_line,
 };
 use pos_edge::{Disk, Sink};
+use pos_layout::Layout;
 use pos_plot::{Counts, Name, PlotFault, plot_sized};
 use pos_runs::Plan;
 use pos_tuple::Size;
@@ -27,14 +28,16 @@ pub fn run_plot<D: Disk, S: Sink>(
     disk: &mut D,
     out: &mut S,
 ) -> u8
-    requires { IsMakeable making.now }
+    requires { AreOutputNames making.now.names }
     ensures plotting { SaysPlotting making.now.id.0 making.now.size making.now.names.file.now making.now.names.base.now
         (D.view disk.old) (D.view disk.new) result (S.heard out.old) (S.heard out.new) }
     ensures faults { TellsFaults result (D.view disk.old) (D.view disk.new) }
+    ensures sink { TellsSinkFaults result (S.heard out.old) (S.heard out.new) }
 {
     let plan = Plan::standard(making.size.k());
     let Names { file, base } = making.names;
-    let answer = plot_sized(alloc, &making.id, making.size, &plan, file, base, disk);
+    let Making { id, size, .. } = making;
+    let answer = plot_sized(alloc, id, *size, &plan, Layout::Two, &[], file, base, disk);
     say_end(alloc, making.size, &making.names, &answer, out)
 }
 
@@ -49,6 +52,7 @@ fn say_end<S: Sink>(
     ensures said { SaysPlotEnd size names.now.file.now names.now.base.now answer.now result (S.heard out.old) (S.heard out.new) }
     ensures disk_fault { result ≡ disk_fault_status → answer.now ≡ Err PlotFault.DiskFailed }
     ensures quiet { result ≢ disk_fault_status → result ≢ sink_fault_status → answer.now ≢ Err PlotFault.DiskFailed }
+    ensures sink { TellsSinkFaults result (S.heard out.old) (S.heard out.new) }
 {
     match answer {
         Ok(counts) => say_text(plotted_line(alloc, size.k(), &counts.tables), out, DONE),
@@ -61,6 +65,7 @@ pub fn say_fault<S: Sink>(alloc: Global, names: &Names<'_>, fault: &PlotFault, o
     ensures said { SaysPlotFault names.now.file.now names.now.base.now fault.now result (S.heard out.old) (S.heard out.new) }
     ensures disk_fault { result ≡ disk_fault_status → fault.now ≡ PlotFault.DiskFailed }
     ensures quiet { result ≢ disk_fault_status → result ≢ sink_fault_status → fault.now ≢ PlotFault.DiskFailed }
+    ensures sink { TellsSinkFaults result (S.heard out.old) (S.heard out.new) }
 {
     match fault {
         PlotFault::Exists(Name::Plot) => say_text(exists_line(alloc, names.file), out, NAME),

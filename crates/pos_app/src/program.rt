@@ -1,18 +1,17 @@
 // The top call.
 ghost use Rattle.std.specs.Prelude.{◌≡◌, ◌≢◌, ◌*◌, ◌≤◌, ◌↔◌, true, ℕ, List, IsSome, length};
 ghost use Rattle.std.specs.Bool.{IsFalse};
-ghost use Rattle.pos_edge.specs.Faults.{Rose};
 ghost use Rattle.pos_edge.specs.Frame.{ChangesOnly, Nothing};
 ghost use Rattle.pos_verify.specs.Verdict.{IsAcceptance, IsProofBytes, IsRight};
 ghost use Rattle.pos_app.specs.Words.{bytes_word};
 ghost use Rattle.pos_app.specs.Command.{Verify, MakePlot, Prove, Quality, Inspect, CheckPlot, Survey, Asks, AsksFor, AsksOfFile, AsksToVerify, IsNoCommand, MakesNoFile, NeedsNoDisk, makes_files, needs_disk};
 ghost use Rattle.pos_app.specs.Statuses.{done_status, refused_status, usage_status, disk_fault_status, damage_status, sink_fault_status, memory_status};
 ghost use Rattle.pos_app.specs.Texts.{usage_line};
-ghost use Rattle.pos_app.specs.Answers.{Speaks, TellsFaults};
+ghost use Rattle.pos_app.specs.Answers.{Speaks, TellsFaults, TellsSinkFaults};
 ghost use Rattle.pos_app.specs.VerifyAnswers.{SaysVerdict, TellsProofs, verdict_status};
 ghost use Rattle.pos_app.specs.PlottingAnswers.{SaysPlotting, TellsPlotting, IsPlotStatus, EndsSafely};
 ghost use Rattle.pos_app.specs.FileAnswers.{NamesDamage, RefusesUnopened};
-ghost use Rattle.pos_app.specs.InspectAnswers.{SaysInspection};
+ghost use Rattle.pos_app.specs.InspectAnswers.{HoldsOpenFile, SaysInspection, ShowsHeader};
 ghost use Rattle.pos_app.specs.ListAnswers.{SaysProofs, SaysQualities, WritesNoFalseProof, ReadsForProofs, ReadsForQualities};
 ghost use Rattle.pos_app.specs.PlotAnswers.{HoldsPlotOf, HoldsWholeFile, ShowsProofsOrNone, ShowsQualities, SaysTheProofs, SaysTheQualities};
 ghost use Rattle.pos_app.specs.CheckAnswers.{SaysCheck, SaysTheSummary, ShowsSummaryOrNone, ReadsForCheck, NamesCheckDamage};
@@ -28,8 +27,9 @@ use crate::refusal::Refusal;
 use crate::saying::{DAMAGE, DISK_FAULT, DONE, NAME, OUT_OF_MEMORY, REFUSED, USAGE, say, say_text};
 use crate::shown::{checked_text, header_text, listed_proofs, listed_qualities};
 use crate::surveying::run_survey;
-use crate::text::{DISK_FAULT_LINE, USAGE_LINE, absent_line, damage_line, verdict_line};
+use crate::text::{DISK_FAULT_LINE, USAGE_LINE, absent_line, verdict_line};
 use pos_edge::{Disk, Sink};
+use pos_text::damage_line;
 use pos_verify::{Verdict, verify};
 use std::alloc::Global;
 
@@ -65,7 +65,7 @@ pub fn run<D: Disk, S: Sink>(alloc: Global, words: &[String], disk: &mut D, out:
     ensures prove { (file c : List ℕ) → Asks words.now (Prove file c)
         → SaysProofs file c (D.view disk.old) (D.view disk.new) result (S.heard out.old) (S.heard out.new) }
     ensures whole_proofs { (file c : List ℕ) → Asks words.now (Prove file c) → (held : HoldsWholeFile file (D.view disk.old))
-        → ShowsProofsOrNone file held.bytes c (D.view disk.old) (D.view disk.new) result (S.heard out.old) (S.heard out.new) }
+        → ShowsProofsOrNone file held.bytes held.lists c (D.view disk.old) (D.view disk.new) result (S.heard out.old) (S.heard out.new) }
     ensures lists { (file c id : List ℕ) (k : ℕ) → Asks words.now (Prove file c) → HoldsPlotOf id k file (D.view disk.old)
         → SaysTheProofs id k c (D.view disk.old) (D.view disk.new) result (S.heard out.old) (S.heard out.new) }
     ensures no_false_proof { (file c : List ℕ) → Asks words.now (Prove file c)
@@ -76,16 +76,18 @@ pub fn run<D: Disk, S: Sink>(alloc: Global, words: &[String], disk: &mut D, out:
     // `quality FILE CHALLENGE`, likewise.
     ensures quality { (file c : List ℕ) → Asks words.now (Quality file c)
         → SaysQualities file c (D.view disk.old) (D.view disk.new) result (S.heard out.old) (S.heard out.new) }
-    ensures whole_qualities { (file c : List ℕ) → Asks words.now (Quality file c) → HoldsWholeFile file (D.view disk.old)
-        → ShowsQualities file c (D.view disk.old) (D.view disk.new) result (S.heard out.old) (S.heard out.new) }
+    ensures whole_qualities { (file c : List ℕ) → Asks words.now (Quality file c) → (held : HoldsWholeFile file (D.view disk.old))
+        → ShowsQualities file held.lists c (D.view disk.old) (D.view disk.new) result (S.heard out.old) (S.heard out.new) }
     ensures rates { (file c id : List ℕ) (k : ℕ) → Asks words.now (Quality file c) → HoldsPlotOf id k file (D.view disk.old)
         → SaysTheQualities id k c (D.view disk.old) (D.view disk.new) result (S.heard out.old) (S.heard out.new) }
     ensures quality_reads { (file c : List ℕ) → Asks words.now (Quality file c) → result ≡ done_status
         → ReadsForQualities (D.view disk.old) (D.view disk.new) (S.heard out.old) (S.heard out.new) }
 
-    // `inspect FILE`.
+    // `inspect FILE`: over any file, and over one that opens.
     ensures inspect { (file : List ℕ) → Asks words.now (Inspect file)
         → SaysInspection file (D.view disk.old) (D.view disk.new) result (S.heard out.old) (S.heard out.new) }
+    ensures inspects { (file : List ℕ) → Asks words.now (Inspect file) → (held : HoldsOpenFile file (D.view disk.old))
+        → ShowsHeader held.bytes (D.view disk.old) (D.view disk.new) result (S.heard out.old) (S.heard out.new) }
 
     // `check FILE N`: over any file, over a whole file, over the plot of an id.
     ensures check { (file : List ℕ) (n : ℕ) → Asks words.now (CheckPlot file n)
@@ -115,7 +117,7 @@ pub fn run<D: Disk, S: Sink>(alloc: Global, words: &[String], disk: &mut D, out:
         → NamesDamage file c (D.view disk.old) (S.heard out.old) (S.heard out.new) }
 
     // Every run.
-    ensures sink_fault { result ≡ sink_fault_status → Rose (S.heard out.old).faults (S.heard out.new).faults }
+    ensures sink_fault { TellsSinkFaults result (S.heard out.old) (S.heard out.new) }
     ensures disk_fault { TellsFaults result (D.view disk.old) (D.view disk.new) }
     ensures out_of_memory { result ≡ memory_status → (S.heard out.new).text ≡ (S.heard out.old).text }
     ensures no_disk { NeedsNoDisk words.now → disk.new ≡ disk.old }
@@ -133,6 +135,7 @@ fn obey<D: Disk, S: Sink>(alloc: Global, command: &Command<'_>, disk: &mut D, ou
     ensures answer { SaysAnswer (meant command.now) (D.view disk.old) (D.view disk.new) result (S.heard out.old) (S.heard out.new) }
     ensures proofs { TellsAnswer (meant command.now) result }
     ensures faults { TellsFaults result (D.view disk.old) (D.view disk.new) }
+    ensures sink { TellsSinkFaults result (S.heard out.old) (S.heard out.new) }
     ensures disk { IsFalse (needs_disk (meant command.now)) → disk.new ≡ disk.old }
     ensures files { IsFalse (makes_files (meant command.now)) → ChangesOnly Nothing Nothing (D.view disk.old) (D.view disk.new) }
 {
@@ -153,6 +156,7 @@ fn run_verify<S: Sink>(alloc: Global, judged: &Judged<'_>, out: &mut S) -> u8
     ensures verdict { SaysVerdict judged.now.id.0 judged.now.size judged.now.challenge.0 (digits_bytes judged.now.proof.now) result (S.heard out.old) (S.heard out.new) }
     ensures proofs { TellsProofs judged.now.id.0 judged.now.size judged.now.challenge.0 (digits_bytes judged.now.proof.now) result }
     ensures no_disk_fault { result ≢ disk_fault_status }
+    ensures sink { TellsSinkFaults result (S.heard out.old) (S.heard out.new) }
 {
     let verdict = judge(judged);
     match verdict_line(alloc, &verdict) {
@@ -196,6 +200,7 @@ fn judge_bytes(judged: &Judged<'_>, bytes: &mut [u8]) -> Verdict
 fn run_inspect<D: Disk, S: Sink>(alloc: Global, file: &str, disk: &mut D, out: &mut S) -> u8
     ensures inspection { SaysInspection file.now (D.view disk.old) (D.view disk.new) result (S.heard out.old) (S.heard out.new) }
     ensures faults { TellsFaults result (D.view disk.old) (D.view disk.new) }
+    ensures sink { TellsSinkFaults result (S.heard out.old) (S.heard out.new) }
     ensures files { ChangesOnly Nothing Nothing (D.view disk.old) (D.view disk.new) }
 {
     match header_text(alloc, file, disk) {
@@ -213,6 +218,7 @@ fn run_prove<D: Disk, S: Sink>(
 ) -> u8
     ensures proofs { SaysProofs question.now.file.now question.now.challenge.0 (D.view disk.old) (D.view disk.new) result (S.heard out.old) (S.heard out.new) }
     ensures faults { TellsFaults result (D.view disk.old) (D.view disk.new) }
+    ensures sink { TellsSinkFaults result (S.heard out.old) (S.heard out.new) }
     ensures files { ChangesOnly Nothing Nothing (D.view disk.old) (D.view disk.new) }
 {
     match listed_proofs(alloc, question.file, &question.challenge, disk) {
@@ -230,6 +236,7 @@ fn run_quality<D: Disk, S: Sink>(
 ) -> u8
     ensures qualities { SaysQualities question.now.file.now question.now.challenge.0 (D.view disk.old) (D.view disk.new) result (S.heard out.old) (S.heard out.new) }
     ensures faults { TellsFaults result (D.view disk.old) (D.view disk.new) }
+    ensures sink { TellsSinkFaults result (S.heard out.old) (S.heard out.new) }
     ensures files { ChangesOnly Nothing Nothing (D.view disk.old) (D.view disk.new) }
 {
     match listed_qualities(alloc, question.file, &question.challenge, disk) {
@@ -243,6 +250,7 @@ fn run_check<D: Disk, S: Sink>(alloc: Global, test: &Test<'_>, disk: &mut D, out
     requires { test.now.challenges ≤ 1000000 }
     ensures summary { SaysCheck test.now.file.now test.now.challenges (D.view disk.old) (D.view disk.new) result (S.heard out.old) (S.heard out.new) }
     ensures faults { TellsFaults result (D.view disk.old) (D.view disk.new) }
+    ensures sink { TellsSinkFaults result (S.heard out.old) (S.heard out.new) }
     ensures files { ChangesOnly Nothing Nothing (D.view disk.old) (D.view disk.new) }
 {
     match checked_text(alloc, test.file, test.challenges, disk) {
@@ -256,6 +264,7 @@ pub fn say_refusal<S: Sink>(alloc: Global, file: &str, refusal: &Refusal, out: &
     ensures said { SaysRefusal file.now refusal.now result (S.heard out.old) (S.heard out.new) }
     ensures disk_fault { result ≡ disk_fault_status → refusal.now ≡ Refusal.DiskFailed }
     ensures quiet { result ≢ disk_fault_status → result ≢ sink_fault_status → refusal.now ≢ Refusal.DiskFailed }
+    ensures sink { TellsSinkFaults result (S.heard out.old) (S.heard out.new) }
 {
     match refusal {
         Refusal::Absent => say_text(absent_line(alloc, file), out, NAME),

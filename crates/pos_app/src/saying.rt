@@ -1,7 +1,7 @@
 // How a run ends: the statuses, and the writing of a text.
-ghost use Rattle.std.specs.Prelude.{◌≡◌, ◌⊎◌, IfOk, OnErr, string_bytes};
+ghost use Rattle.std.specs.Prelude.{◌≡◌, ◌≢◌, ◌⊎◌, IfOk, OnErr, string_bytes};
 ghost use Rattle.pos_app.specs.Statuses.{sink_fault_status};
-ghost use Rattle.pos_app.specs.Answers.{Speaks, IsUnsaid, EndsWith};
+ghost use Rattle.pos_app.specs.Answers.{Speaks, IsUnsaid, EndsWith, TellsSinkFaults};
 
 use pos_edge::Sink;
 use std::alloc::AllocError;
@@ -32,6 +32,7 @@ pub fn say_text<S: Sink>(text: Result<String, AllocError>, out: &mut S, status: 
     ensures said { IfOk text (λ line. Speaks status (string_bytes line) result (S.heard out.old) (S.heard out.new)) }
     ensures unsaid { OnErr text (IsUnsaid result (S.heard out.old) (S.heard out.new)) }
     ensures ends { EndsWith status result }
+    ensures sink { status ≢ sink_fault_status → TellsSinkFaults result (S.heard out.old) (S.heard out.new) }
 {
     match text {
         Ok(line) => say(out, line.as_bytes(), status),
@@ -43,6 +44,7 @@ pub fn say_text<S: Sink>(text: Result<String, AllocError>, out: &mut S, status: 
 pub fn say<S: Sink>(out: &mut S, text: &[u8], status: u8) -> u8
     ensures said { Speaks status text.now result (S.heard out.old) (S.heard out.new) }
     ensures ends { (result ≡ status) ⊎ (result ≡ sink_fault_status) }
+    ensures sink { status ≢ sink_fault_status → TellsSinkFaults result (S.heard out.old) (S.heard out.new) }
 {
     match out.put(text) {
         Ok(()) => status,

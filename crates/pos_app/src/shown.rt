@@ -7,13 +7,13 @@ ghost use Rattle.pos_app.specs.ListAnswers.{IsProofsText, IsQualitiesText, IsPro
 ghost use Rattle.pos_app.specs.CheckAnswers.{IsCheckedText, IsCheckDamage};
 ghost use Rattle.pos_app.specs.Refused.{Finds};
 
-use crate::list_text::{proofs_text, qualities_text};
 use crate::refusal::Refusal;
 use crate::text::{checked_line, inspect_text};
 use pos_check::check;
 use pos_edge::Disk;
 use pos_harvest::{list_proofs, list_qualities};
 use pos_reader::Plot;
+use pos_text::{proofs_text, qualities_text};
 use pos_tuple::Challenge;
 use std::alloc::Global;
 

@@ -2,7 +2,7 @@
 ghost use Rattle.std.specs.Prelude.{◌≡◌, ◌≢◌, ◌≤◌, Err};
 ghost use Rattle.pos_check.specs.Surveys.{FailsOnDisk, IsDiskFault};
 ghost use Rattle.pos_app.specs.Statuses.{disk_fault_status, sink_fault_status};
-ghost use Rattle.pos_app.specs.Answers.{TellsFaults};
+ghost use Rattle.pos_app.specs.Answers.{TellsFaults, TellsSinkFaults};
 ghost use Rattle.pos_app.specs.SurveyAnswers.{SaysSurvey, SaysSurveyEnd, SaysSurveyFault};
 ghost use Rattle.pos_app.specs.Read.{IsSurveyable};
 
@@ -29,6 +29,7 @@ pub fn run_survey<D: Disk, S: Sink>(
     ensures survey { SaysSurvey made.now.size made.now.number made.now.challenges made.now.names.file.now made.now.names.base.now
         (D.view disk.old) (D.view disk.new) result (S.heard out.old) (S.heard out.new) }
     ensures faults { TellsFaults result (D.view disk.old) (D.view disk.new) }
+    ensures sink { TellsSinkFaults result (S.heard out.old) (S.heard out.new) }
 {
     let Names { file, base } = made.names;
     let answer = survey(
@@ -54,6 +55,7 @@ fn say_end<S: Sink>(
     ensures said { SaysSurveyEnd size names.now.file.now names.now.base.now answer.now result (S.heard out.old) (S.heard out.new) }
     ensures disk_fault { result ≡ disk_fault_status → FailsOnDisk answer.now }
     ensures quiet { result ≢ disk_fault_status → result ≢ sink_fault_status → FailsOnDisk answer.now → ⊥ }
+    ensures sink { TellsSinkFaults result (S.heard out.old) (S.heard out.new) }
 {
     match answer {
         Ok((counts, summary)) => say_text(
@@ -75,6 +77,7 @@ fn say_survey_fault<S: Sink>(
     ensures said { SaysSurveyFault names.now.file.now names.now.base.now fault.now result (S.heard out.old) (S.heard out.new) }
     ensures disk_fault { result ≡ disk_fault_status → IsDiskFault fault.now }
     ensures quiet { result ≢ disk_fault_status → result ≢ sink_fault_status → IsDiskFault fault.now → ⊥ }
+    ensures sink { TellsSinkFaults result (S.heard out.old) (S.heard out.new) }
 {
     match fault {
         SurveyFault::Plot(fault) => say_fault(alloc, names, fault, out),

@@ -2,11 +2,11 @@
 ghost use Rattle.std.specs.Prelude.{◌≡◌, ◌++◌, IfOk, OnOk, string_bytes};
 ghost use Rattle.pos_edge.specs.ScratchNames.{scratch_name};
 ghost use Rattle.pos_app.specs.SurveyAnswers.{survey_text};
-ghost use Rattle.pos_app.specs.Texts.{verdict_line, plotted_line, exists_line, full_line, scratch_line, inspect_text, header_lines, id_line, size_line, table_line, length_line, checked_line, absent_line, damage_line, field_name};
+ghost use Rattle.pos_app.specs.Texts.{verdict_line, plotted_line, exists_line, full_line, scratch_line, inspect_text, header_part, header_lines, id_line, size_line, table_line, length_line, memo_line, layout_lines, checked_line, absent_line};
 
 use pos_check::Summary;
 use pos_edge::ScratchDamage;
-use pos_layout::{Damage, HeaderField};
+use pos_layout::Layout;
 use pos_reader::Plot;
 use pos_tuple::Id;
 use pos_verify::Verdict;
@@ -81,9 +81,19 @@ pub fn scratch_line(alloc: Global, damage: &ScratchDamage) -> Result<String, All
     format!(in alloc; "scratch {file} record {place} {found} outside {range}\n")
 }
 
-/// The lines of an open plot: its id, its size, the counts of its tables and the length of its file.
+/// The lines of an open plot: its id, its size, the counts of its tables and the length of its file, and in layout 2 the
+/// layout and the memo.
 pub fn inspect_text(alloc: Global, plot: &Plot) -> Result<String, AllocError>
-    ensures { IfOk result (λ text. string_bytes text ≡ inspect_text plot.now.header) }
+    ensures { IfOk result (λ text. string_bytes text ≡ inspect_text plot.now.header plot.now.memo) }
+{
+    let mut text = header_part(alloc, plot)?;
+    push_layout(alloc, &mut text, plot.layout(), plot.memo())?;
+    Ok(text)
+}
+
+// The lines of the header in either layout.
+fn header_part(alloc: Global, plot: &Plot) -> Result<String, AllocError>
+    ensures { IfOk result (λ text. string_bytes text ≡ header_part plot.now.header) }
 {
     let counts = [
         plot.count(1),
@@ -144,6 +154,40 @@ fn push_length(alloc: Global, text: &mut String, length: u64) -> Result<(), Allo
     text.push_str(line.as_str())
 }
 
+// Appends the lines of the layout and the memo.
+fn push_layout(
+    alloc: Global,
+    text: &mut String,
+    layout: Layout,
+    memo: &[u8],
+) -> Result<(), AllocError>
+    ensures { OnOk result (string_bytes text.new ≡ string_bytes text.old ++ layout_lines layout memo.now) }
+{
+    match layout {
+        Layout::One => Ok(()),
+        Layout::Two => push_second(alloc, text, memo),
+    }
+}
+
+// Appends those of layout 2.
+fn push_second(alloc: Global, text: &mut String, memo: &[u8]) -> Result<(), AllocError>
+    ensures { OnOk result (string_bytes text.new ≡ string_bytes text.old ++ layout_lines Layout.Two memo.now) }
+{
+    let line = memo_line(alloc, memo)?;
+    let lines = format!(in alloc; "layout 2\n{line}")?;
+    text.push_str(lines.as_str())
+}
+
+fn memo_line(alloc: Global, memo: &[u8]) -> Result<String, AllocError>
+    ensures { IfOk result (λ line. string_bytes line ≡ memo_line memo.now) }
+{
+    if memo.is_empty() {
+        return format!(in alloc; "memo\n");
+    }
+    let digits = hex::encode(alloc, memo)?;
+    format!(in alloc; "memo {digits}\n")
+}
+
 /// What is said where the disk failed.
 pub const DISK_FAULT_LINE: &[u8; 11] = b"disk fault\n";
 
@@ -180,35 +224,4 @@ pub fn absent_line(alloc: Global, name: &str) -> Result<String, AllocError>
     ensures { IfOk result (λ line. string_bytes line ≡ absent_line name.now) }
 {
     format!(in alloc; "absent {name}\n")
-}
-
-/// The line of a damage.
-pub fn damage_line(alloc: Global, damage: &Damage) -> Result<String, AllocError>
-    ensures { IfOk result (λ line. string_bytes line ≡ damage_line damage.now) }
-{
-    match damage {
-        Damage::NotOpen { length, gate } => format!(in alloc; "damage not-open {length} {gate}\n"),
-        Damage::Header { field } => {
-            let name = field_name(field);
-            format!(in alloc; "damage header {name}\n")
-        }
-        Damage::Length { said, found } => format!(in alloc; "damage length {said} {found}\n"),
-        Damage::Directory { table, park } => format!(in alloc; "damage directory {table} {park}\n"),
-        Damage::Digest { table, park } => format!(in alloc; "damage digest {table} {park}\n"),
-        Damage::Form { table, park } => format!(in alloc; "damage form {table} {park}\n"),
-        Damage::Pointer { table, at } => format!(in alloc; "damage pointer {table} {at}\n"),
-        Damage::NotAProof { at } => format!(in alloc; "damage not-a-proof {at}\n"),
-    }
-}
-
-// A field of the header, as a word.
-fn field_name(field: &HeaderField) -> &'static str
-    ensures { result.now ≡ field_name field.now }
-{
-    match field {
-        HeaderField::Name => "name",
-        HeaderField::Size => "size",
-        HeaderField::Zeros => "zeros",
-        HeaderField::Counts => "counts",
-    }
 }

@@ -79,12 +79,15 @@ fn refusals_name_the_first_failing_test(rt: HostRuntime) -> Result<(), Fail> {
     let short = repeated(alloc, "0", 286)?;
     let long = repeated(alloc, "0", 290)?;
     let longest = repeated(alloc, "0", 100_000)?;
+    let greatest = repeated(alloc, "0", 800)?;
     let rows = [
         ("18", ID, whole.as_str(), "refused match 1 0\n"),
         ("18", ID, short.as_str(), "refused length 144 143\n"),
         ("18", ID, long.as_str(), "refused length 144 145\n"),
         ("18", ID, longest.as_str(), "refused length 144 50000\n"),
         ("18", ID, "", "refused length 144 0\n"),
+        ("33", ID, "", "refused length 264 0\n"),
+        ("50", ID, greatest.as_str(), "refused match 1 0\n"),
         ("12", CHALLENGE, EXCHANGED, "refused match 6 0\n"),
         // a challenge whose first bits differ, and one whose first bit is turned
         ("12", ID, PROOF, "refused challenge 0 2283\n"),
@@ -109,11 +112,11 @@ fn words_that_are_no_command_answer_the_usage_line(rt: HostRuntime) -> Result<()
         &["plot", ID, "10", "s.", "s"],
         &["plot", ID, "10", "", "s"],
         &["plot", ID, "10", "p", "-s"],
-        &["plot", ID, "33", "p", "s"],
+        &["plot", ID, "51", "p", "s"],
         &["plot", &ID[1..], "10", "p", "s"],
         &["plot", ID, "10", "p", "s", ""],
         &["verify", ID, "9", ID, ""],
-        &["verify", ID, "33", ID, ""],
+        &["verify", ID, "51", ID, ""],
         &["verify", ID, "018", ID, ""],
         &["verify", ID, "+18", ID, ""],
         &["verify", &ID[1..], "18", ID, ""],

@@ -1,7 +1,7 @@
 //! `prove` and `quality` over small files, over changed ones, and over none.
 
 use crate::tests::ID;
-use crate::tests::inspect::{answer_over, empty_file, toy_file};
+use crate::tests::inspect::{TWO, answer_over, empty_file, toy_file, toy_of};
 use std::test::Fail;
 
 // SHA-256 of 32 zero bytes and of the values 0 and 1, as two strings of 10 bits.
@@ -27,6 +27,10 @@ fn small_files_show_their_lists_or_the_first_damage(rt: HostRuntime) -> Result<(
         assert_eq!(rt; text.as_slice(), said.as_bytes());
         assert_eq!(rt; status, wanted);
     }
+    let toy = toy_of(alloc, TWO, &[0xab, 0xcd])?;
+    let (status, text) = answer_over(alloc, &["quality", "toy", ID], toy.as_slice(), &[])?;
+    assert_eq!(rt; text.as_slice(), QUALITY.as_bytes());
+    assert_eq!(rt; status, 0);
     let empty = empty_file(alloc)?;
     let (status, text) = answer_over(alloc, &["prove", "toy", ID], empty.as_slice(), &[])?;
     assert_eq!(rt; text.as_slice(), b"0 proofs\n".as_slice());

@@ -33,7 +33,7 @@ returns c =
     let number : number_word (string_bytes c.index-words-1.result) ≡ Some c.in-Some-read_number.number = search rules in
     let n : challenges_word (string_bytes c.index-words-2.result) ≡ Some c.in-Some-read_challenges.challenges = search rules in
     let names : output_words (string_bytes c.index-words-3.result) (string_bytes c.index-words-4.result) ≡ Some (c.in-Some-read_names.names.file.now, c.in-Some-read_names.names.base.now) = search rules in (
-      record { greatest = c.in-Some.ensures.greatest; few = c.in-Some-read_challenges.ensures.few; apart = c.in-Some-read_names.ensures.apart },
+      record { few = c.in-Some-read_challenges.ensures.few; apart = c.in-Some-read_names.ensures.apart },
       five_words c.args.words.now c.index-words-0.result c.index-words-1.result c.index-words-2.result c.index-words-3.result c.index-words-4.result
           c.in-Some.size c.in-Some-read_number.number c.in-Some-read_challenges.challenges c.in-Some-read_names.names.file.now c.in-Some-read_names.names.base.now five
           c.index-words-0.is c.index-words-1.is c.index-words-2.is c.index-words-3.is c.index-words-4.is k number n names,

@@ -6,6 +6,7 @@ use Rattle.pos_app.specs.Obeyed.{SaysAnswer}
 use Rattle.pos_app.specs.Read.{meant}
 use Rattle.pos_app.proofs.AnswerLemmas.{says_answer-same, tells_answer-same}
 use Rattle.pos_app.proofs.ListLemmas.{any_file, names_damage, no_false_proof, reads_for_proofs, reads_for_qualities}
+use Rattle.pos_app.proofs.InspectLemmas.{shows_header}
 use Rattle.pos_app.proofs.CheckLemmas.{names_check_damage, reads_for_check, says_of_whole_check, says_the_summary}
 use Rattle.pos_app.proofs.StatusLemmas.{never_usage, only_verify_refuses, usage_is_no_refusal}
 use Rattle.pos_app.proofs.SurveyingLemmas.{is_survey_status, survey_ends_safely, tells_survey}
@@ -71,6 +72,9 @@ returns-in-Some-clause-survey_crash g c file base k number n e =
 
 pub returns-in-Some-clause-inspect : goal.returns-in-Some-clause-inspect
 returns-in-Some-clause-inspect g c file e = says g c (Inspect file) e
+
+pub returns-in-Some-clause-inspects : goal.returns-in-Some-clause-inspects
+returns-in-Some-clause-inspects g c file e held = shows_header file _ _ c.obey.result _ _ held (says g c (Inspect file) e)
 
 pub returns-in-Some-clause-prove : goal.returns-in-Some-clause-prove
 returns-in-Some-clause-prove g c file challenge e = says g c (Prove file challenge) e

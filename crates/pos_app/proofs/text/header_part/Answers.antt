@@ -1,4 +1,4 @@
-use Rattle.pos_app.proofs.text.inspect_text.Goals as goal
+use Rattle.pos_app.proofs.text.header_part.Goals as goal
 
 pub returns : goal.returns
 returns c =
