@@ -1,0 +1,5 @@
+pub mod OfferLemmas
+pub mod AskLemmas
+pub mod FarmLemmas
+pub mod NameLemmas
+pub mod WholeAnswers
