@@ -1,0 +1,4 @@
+pub mod DifferenceLemmas
+pub mod ComparingLemmas
+pub mod AuditingLemmas
+mod LawLemmas

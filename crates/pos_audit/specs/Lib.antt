@@ -1,0 +1,4 @@
+pub mod Faults
+pub mod Comparisons
+pub mod Audits
+pub mod AuditLaws
