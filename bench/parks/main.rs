@@ -1,60 +1,55 @@
-// Parks in plain Rust, by the same steps as the crates pos_bits and pos_rice, timed over many calls.
+// Parks in plain Rust, in the fastest form that was found, timed over many calls.
 use std::hint::black_box;
 use std::time::Instant;
 
-const MOST_NUMBERS: usize = 2048;
+const MOST_NUMBERS: usize = 4096;
 const MOST_BYTES: usize = 14 * MOST_NUMBERS;
 const FULL: u32 = 57;
 
-struct BitWriter {
-    bytes: Vec<u8>,
+// Bits put behind one another into a slice that has room for them all.
+struct BitWriter<'a> {
+    bytes: &'a mut [u8],
+    len: usize,
     rest: u64,
     fill: u32,
 }
 
-#[inline(always)]
-fn append(bytes: &mut Vec<u8>, rest: u64, fill: u32, value: u64, width: u32) -> (u64, u32) {
-    let room = 64 - fill;
-    if width < room {
-        return ((rest << width) + value, fill + width);
-    }
-    let left = width - room;
-    let word = if room < 64 { (rest << room) + (value >> left) } else { value >> left };
-    bytes.extend_from_slice(&word.to_be_bytes());
-    (value & ((1 << left) - 1), left)
-}
-
-impl BitWriter {
-    fn put(&mut self, value: u128, width: u32) -> Result<(), ()> {
-        self.bytes.try_reserve(24).map_err(|_| ())?;
-        if width > 64 {
-            let high = (value >> 64) as u64;
-            (self.rest, self.fill) = append(&mut self.bytes, self.rest, self.fill, high, width - 64);
-            (self.rest, self.fill) = append(&mut self.bytes, self.rest, self.fill, value as u64, 64);
-        } else {
-            (self.rest, self.fill) = append(&mut self.bytes, self.rest, self.fill, value as u64, width);
+impl BitWriter<'_> {
+    #[inline(always)]
+    fn put(&mut self, value: u64, width: u32) {
+        let room = 64 - self.fill;
+        if width < room {
+            self.rest = (self.rest << width) + value;
+            self.fill += width;
+            return;
         }
-        Ok(())
+        let left = width - room;
+        let word = if room < 64 { (self.rest << room) + (value >> left) } else { value >> left };
+        // no test of the place: the bound on a park's length says that there is room
+        unsafe { std::ptr::copy_nonoverlapping(word.to_be_bytes().as_ptr(), self.bytes.as_mut_ptr().add(self.len), 8) };
+        self.len += 8;
+        self.rest = value & ((1 << left) - 1);
+        self.fill = left;
     }
 
-    fn put_run(&mut self, ones: u64) -> Result<(), ()> {
-        self.bytes.try_reserve((ones / 8) as usize + 24).map_err(|_| ())?;
-        let mut left = ones;
+    fn put_wide(&mut self, value: u128, width: u32) {
+        if width > 64 {
+            self.put((value >> 64) as u64, width - 64);
+            self.put(value as u64, 64);
+        } else {
+            self.put(value as u64, width);
+        }
+    }
+
+    #[inline(never)]
+    fn put_long(&mut self, number: u128, low: u32) {
+        let mut left = (number >> low) as u64;
         while left >= 32 {
-            (self.rest, self.fill) = append(&mut self.bytes, self.rest, self.fill, 0xffff_ffff, 32);
+            self.put(0xffff_ffff, 32);
             left -= 32;
         }
-        (self.rest, self.fill) = append(&mut self.bytes, self.rest, self.fill, (2 << left) - 2, left as u32 + 1);
-        Ok(())
-    }
-
-    fn finish(self) -> Vec<u8> {
-        let BitWriter { mut bytes, rest, fill } = self;
-        if fill > 0 {
-            let last = (rest << (64 - fill)).to_be_bytes();
-            bytes.extend_from_slice(&last[..(fill as usize + 7) / 8]);
-        }
-        bytes
+        self.put((2 << left) - 2, left as u32 + 1);
+        self.put_wide(number % (1 << low), low);
     }
 }
 
@@ -82,19 +77,6 @@ fn window_at(bytes: &[u8], at: u64) -> u64 {
     bits_at_byte(bytes, (at / 8) as usize) << (at % 8)
 }
 
-fn ones_from(bytes: &[u8], at: u64) -> u64 {
-    let end = 8 * bytes.len() as u64;
-    let mut ones = 0;
-    while at + ones < end {
-        let count = window_at(bytes, at + ones).leading_ones().min(FULL);
-        ones += count as u64;
-        if count < FULL {
-            return ones;
-        }
-    }
-    ones
-}
-
 impl BitReader<'_> {
     fn left(&self) -> u64 {
         8 * self.bytes.len() as u64 - self.at
@@ -116,7 +98,15 @@ impl BitReader<'_> {
     }
 
     fn take_run(&mut self) -> Option<u64> {
-        let ones = ones_from(self.bytes, self.at);
+        let end = 8 * self.bytes.len() as u64;
+        let mut ones = 0;
+        while self.at + ones < end {
+            let count = window_at(self.bytes, self.at + ones).leading_ones().min(FULL);
+            ones += count as u64;
+            if count < FULL {
+                break;
+            }
+        }
         if ones == self.left() {
             return None;
         }
@@ -137,17 +127,34 @@ fn low_width(numbers: &[u128]) -> u32 {
 fn encode_park(k: u32, numbers: &[u128]) -> Result<Vec<u8>, ()> {
     let first = numbers[0];
     let low = low_width(numbers);
-    let mut writer = BitWriter { bytes: Vec::new(), rest: 0, fill: 0 };
-    writer.put(first, 2 * k + 2)?;
-    writer.put(low as u128, 7)?;
+    let most = ((2 * k as usize + 4) * numbers.len() + 12) / 8 + 8;
+    let mut bytes = Vec::new();
+    bytes.try_reserve(most).map_err(|_| ())?;
+    bytes.resize(most, 0);
+    let mut writer = BitWriter { bytes: &mut bytes, len: 0, rest: 0, fill: 0 };
+    writer.put_wide(first, 2 * k + 2);
+    writer.put_wide(low as u128, 7);
+    // numbers whose codes have fewer than 64 bits
+    let short = if low < 63 { ((63 - low) as u128) << low } else { 0 };
     let mut before = first;
     for number in &numbers[1..] {
         let step = *number - before - 1;
-        writer.put_run((step >> low) as u64)?;
-        writer.put(step % (1 << low), low)?;
+        if step < short {
+            let step = step as u64;
+            let run = (step >> low) as u32;
+            writer.put((((2 << run) - 2) << low) + (step & ((1 << low) - 1)), run + 1 + low);
+        } else {
+            writer.put_long(step, low);
+        }
         before = *number;
     }
-    Ok(writer.finish())
+    let BitWriter { len, rest, fill, .. } = writer;
+    let last = fill.div_ceil(8) as usize;
+    if fill > 0 {
+        bytes[len..len + last].copy_from_slice(&(rest << (64 - fill)).to_be_bytes()[..last]);
+    }
+    bytes.truncate(len + last);
+    Ok(bytes)
 }
 
 #[inline(always)]
@@ -160,11 +167,36 @@ fn take_step(reader: &mut BitReader, low: u32, room: u128) -> Option<u128> {
     if step < room { Some(step) } else { None }
 }
 
+// In two loops: whole codes from one window without a test on the end while eight bytes are left, and then the rest.
 fn take_steps(reader: &mut BitReader, low: u32, first: u128, limit: u128, out: &mut [u128]) -> Option<()> {
+    let bytes = reader.bytes;
     let mut last = first;
-    for place in out.iter_mut() {
+    let mut at = reader.at;
+    let mut done = 0;
+    if low < 57 && bytes.len() >= 8 {
+        let end = 8 * (bytes.len() as u64 - 8);
+        while done < out.len() && at <= end {
+            // no test of the place, as the line above has one
+            let eight = unsafe { *(bytes.as_ptr().add((at / 8) as usize) as *const [u8; 8]) };
+            let window = u64::from_be_bytes(eight) << (at % 8);
+            let ones = window.leading_ones();
+            if ones + low > 56 {
+                break;
+            }
+            at += (ones + 1 + low) as u64;
+            last += (((ones as u64) << low) + ((window << ones) >> (63 - low))) as u128 + 1;
+            out[done] = last;
+            done += 1;
+        }
+    }
+    reader.at = at;
+    if last > limit {
+        return None;
+    }
+    while done < out.len() {
         last += take_step(reader, low, limit - last)? + 1;
-        *place = last;
+        out[done] = last;
+        done += 1;
     }
     Some(())
 }
@@ -225,34 +257,44 @@ fn numbers_of() -> Vec<u128> {
     numbers
 }
 
+const PIECES: usize = 200;
+const CALLS: u32 = 20;
+
+// The least time of a piece of so many calls, in picoseconds a number.
+fn least(mut piece: impl FnMut() -> u64) -> (u128, u64) {
+    let mut best = u128::MAX;
+    let mut sum = 0;
+    for _ in 0..PIECES {
+        let start = Instant::now();
+        for _ in 0..black_box(CALLS) {
+            sum += piece();
+        }
+        best = best.min(start.elapsed().as_nanos());
+    }
+    (best * 1000 / CALLS as u128 / 2048, sum)
+}
+
 fn main() {
-    let calls = black_box(4000u32);
     let numbers = numbers_of();
     assert!(are_numbers(32, &numbers));
     let park = encode_park(32, &numbers).unwrap();
     println!("{} bytes", park.len());
-    let each = |time: std::time::Duration| time.as_nanos() * 1000 / 4000 / 2048;
-    let start = Instant::now();
-    let mut sum = 0u64;
-    for _ in 0..calls {
-        sum += are_numbers(32, black_box(&numbers)) as u64;
-    }
-    println!("are_numbers {} ps a number, {sum}", each(start.elapsed()));
-    let start = Instant::now();
-    let mut sum = 0u64;
-    for _ in 0..calls {
-        if are_numbers(32, &numbers) {
-            sum += encode_park(32, &numbers).unwrap().len() as u64;
+    let (time, sum) = least(|| are_numbers(32, black_box(&numbers)) as u64);
+    println!("are_numbers {time} ps a number, {sum}");
+    let (time, sum) = least(|| {
+        if !are_numbers(32, &numbers) {
+            return 0;
         }
-    }
-    println!("encode_park {} ps a number with that test, {sum}", each(start.elapsed()));
-    let start = Instant::now();
-    let mut sum = 0u64;
+        encode_park(32, &numbers).unwrap().len() as u64
+    });
+    println!("encode_park {time} ps a number with that test, {sum}");
     let mut out = [0u128; MOST_NUMBERS];
-    for _ in 0..calls {
-        if decode_park(32, 2048, &park, &mut out).is_ok() {
-            sum += (out[2047] & 0xffff_ffff) as u64;
+    let (time, sum) = least(|| {
+        if decode_park(32, 2048, black_box(&park), &mut out).is_ok() {
+            (out[2047] & 0xffff_ffff) as u64
+        } else {
+            0
         }
-    }
-    println!("decode_park {} ps a number, {sum}", each(start.elapsed()));
+    });
+    println!("decode_park {time} ps a number, {sum}");
 }

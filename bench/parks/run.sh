@@ -1,5 +1,5 @@
 #!/usr/bin/env bash
-# Times parks in the proved crates against plain Rust of the same steps, by turns.
+# Times parks in the proved crates against plain Rust of the fastest form, by turns.
 set -eu
 here="$(cd "$(dirname "$0")" && pwd)"
 top="$(cd "$here/../.." && pwd)"

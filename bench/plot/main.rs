@@ -1,5 +1,5 @@
 // The whole of a plot in plain Rust, all in memory, with the processor's time of each stage: bench/plot/run.sh builds it.
-// The file is, byte for byte, the one that the proved program writes.
+// The file is, byte for byte, the one that the proved program writes, in the second layout without a memo.
 #![feature(portable_simd)]
 
 mod tables;
@@ -9,8 +9,17 @@ use std::os::unix::fs::FileExt;
 use std::path::Path;
 use tables::{Stages, Tables, tables_of};
 
-const MOST_NUMBERS: usize = 2048;
 const HEADER_BYTES: usize = 176;
+
+// What a layout of the file fixes: its name, how many numbers a full park has, and how many bytes of its SHA-256 are kept of a park.
+struct Layout {
+    name: &'static [u8; 15],
+    most_numbers: usize,
+    digest_bytes: usize,
+}
+
+const ONE: Layout = Layout { name: b"SPACEPLOT-OWN-1", most_numbers: 2048, digest_bytes: 8 };
+const TWO: Layout = Layout { name: b"SPACEPLOT-OWN-2", most_numbers: 4096, digest_bytes: 16 };
 
 // SHA-256, by the steps of the library that the proved crates use.
 
@@ -73,7 +82,7 @@ fn sha_block(state: &mut [u32; 8], block: &[u8; 64]) {
 }
 
 #[inline(never)]
-fn park_digest(park: &[u8]) -> [u8; 8] {
+fn park_digest(park: &[u8]) -> [u8; 32] {
     let mut state = [
         0x6a09e667, 0xbb67ae85, 0x3c6ef372, 0xa54ff53a, 0x510e527f, 0x9b05688c, 0x1f83d9ab, 0x5be0cd19,
     ];
@@ -89,7 +98,11 @@ fn park_digest(park: &[u8]) -> [u8; 8] {
     for block in last[..end].as_chunks::<64>().0 {
         sha_block(&mut state, block);
     }
-    (((state[0] as u64) << 32) | state[1] as u64).to_be_bytes()
+    let mut digest = [0; 32];
+    for (four, word) in digest.chunks_exact_mut(4).zip(state) {
+        four.copy_from_slice(&word.to_be_bytes());
+    }
+    digest
 }
 
 // Parks. All numbers have at most 64 bits at the sizes here.
@@ -154,6 +167,7 @@ fn encode_park<const K: u32>(numbers: &[(u64, u32)], writer: &mut BitWriter) {
 // The writer of the file.
 
 struct Writer {
+    layout: &'static Layout,
     file: File,
     bits: BitWriter,
     header: Vec<u8>,
@@ -169,29 +183,29 @@ fn sync(file: &File, name: &str) {
 }
 
 impl Writer {
-    fn begin(name: &str, id: &[u8; 32], k: u32) -> Writer {
+    fn begin(layout: &'static Layout, name: &str, id: &[u8; 32], k: u32) -> Writer {
         let file = File::options().write(true).create_new(true).open(name).unwrap();
         file.write_all_at(&[0], 0).unwrap();
         sync(&file, name);
         file.write_all_at(&[0; HEADER_BYTES - 1], 1).unwrap();
         let mut header = vec![0];
-        header.extend_from_slice(b"SPACEPLOT-OWN-1");
+        header.extend_from_slice(layout.name);
         header.extend_from_slice(id);
         header.push(k as u8);
         header.resize(56, 0);
         let bits = BitWriter { bytes: Vec::new(), rest: 0, fill: 0 };
-        Writer { file, bits, header, directory: Vec::new(), length: HEADER_BYTES as u64 }
+        Writer { layout, file, bits, header, directory: Vec::new(), length: HEADER_BYTES as u64 }
     }
 
     fn table<const K: u32>(&mut self, t: u32, numbers: &[(u64, u32)], stages: &mut Stages) {
-        for park in numbers.chunks(MOST_NUMBERS) {
+        for park in numbers.chunks(self.layout.most_numbers) {
             encode_park::<K>(park, &mut self.bits);
             let bytes = &self.bits.bytes;
             self.directory.extend_from_slice(&self.length.to_be_bytes());
             self.directory.extend_from_slice(&(bytes.len() as u32).to_be_bytes());
             self.directory.extend_from_slice(&(park.len() as u32).to_be_bytes());
             stages.end("park code");
-            self.directory.extend_from_slice(&park_digest(bytes));
+            self.directory.extend_from_slice(&park_digest(bytes)[..self.layout.digest_bytes]);
             stages.end("SHA-256");
             let head = if t == 7 { park[0].0 >> (K + 1) } else { 0 };
             self.directory.extend_from_slice(&head.to_be_bytes());
@@ -294,8 +308,8 @@ fn relocate<const K: u32>(tables: Tables, marks: &[Vec<u64>], writer: &mut Write
     writer.table::<K>(7, &points, stages);
 }
 
-fn plot<const K: u32>(id: &[u8; 32], name: &str, stages: &mut Stages) {
-    let mut writer = Writer::begin(name, id, K);
+fn plot<const K: u32>(layout: &'static Layout, id: &[u8; 32], name: &str, stages: &mut Stages) {
+    let mut writer = Writer::begin(layout, name, id, K);
     stages.end("syncs");
     let tables = tables_of::<K>(id, stages);
     let marks = prune(&tables);
@@ -311,13 +325,17 @@ fn main() {
     for (byte, two) in id.iter_mut().zip(words[1].as_bytes().chunks(2)) {
         *byte = u8::from_str_radix(str::from_utf8(two).unwrap(), 16).unwrap();
     }
+    // The second layout, as the proved program writes it, but where a fourth word asks for the first.
+    let layout = if words.len() > 4 { &ONE } else { &TWO };
     let mut stages = Stages::new();
     match words[2].as_str() {
-        "12" => plot::<12>(&id, &words[3], &mut stages),
-        "16" => plot::<16>(&id, &words[3], &mut stages),
-        "18" => plot::<18>(&id, &words[3], &mut stages),
-        "20" => plot::<20>(&id, &words[3], &mut stages),
-        _ => plot::<22>(&id, &words[3], &mut stages),
+        "11" => plot::<11>(layout, &id, &words[3], &mut stages),
+        "12" => plot::<12>(layout, &id, &words[3], &mut stages),
+        "16" => plot::<16>(layout, &id, &words[3], &mut stages),
+        "18" => plot::<18>(layout, &id, &words[3], &mut stages),
+        "20" => plot::<20>(layout, &id, &words[3], &mut stages),
+        "22" => plot::<22>(layout, &id, &words[3], &mut stages),
+        _ => plot::<24>(layout, &id, &words[3], &mut stages),
     }
     stages.show();
 }

@@ -8,10 +8,10 @@ work="$(mktemp -d)"
 trap 'rm -rf "$work"' EXIT
 crate="$work/crates/bench_plot_file"
 mkdir -p "$crate/src" "$crate/proofs/write_table" "$crate/proofs/write_plot"
-for name in pos_bits pos_blake3 pos_edge pos_host pos_points pos_tuple pos_rice pos_layout; do
+for name in pos_lists pos_bits pos_blake3 pos_edge pos_host pos_points pos_tuple pos_rice pos_gate pos_layout; do
     cp -r "$top/crates/$name" "$work/crates/"
 done
-grep -E '^(pos_bits|pos_blake3|pos_edge|pos_host|pos_points|pos_tuple|pos_rice|pos_layout):' "$top/crates.txt" > "$work/crates.txt"
+grep -E '^(pos_lists|pos_bits|pos_blake3|pos_edge|pos_host|pos_points|pos_tuple|pos_rice|pos_gate|pos_layout):' "$top/crates.txt" > "$work/crates.txt"
 echo 'bench_plot_file: pos_bits pos_edge pos_host pos_points pos_tuple pos_rice pos_layout' >> "$work/crates.txt"
 cp "$here/program.txt" "$crate/src/main.rt"
 cp "$here/write_table_invariants.txt" "$crate/proofs/write_table/Invariants.antt"
