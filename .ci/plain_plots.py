@@ -2,6 +2,7 @@
 turned_bits.py. Values, ids and challenges are read as the documents of this repository describe them."""
 import hashlib
 import struct
+from typing import NamedTuple
 
 B, C = 119, 127
 MASK = 0xFFFFFFFF
@@ -11,8 +12,6 @@ COLUMNS = [(0, 4, 8, 12), (1, 5, 9, 13), (2, 6, 10, 14), (3, 7, 11, 15)]
 DIAGONALS = [(0, 5, 10, 15), (1, 6, 11, 12), (2, 7, 8, 13), (3, 4, 9, 14)]
 # How long the metadata of tables 2 to 7 is, in values.
 UNITS = [2, 4, 4, 3, 2, 0]
-MOST_NUMBERS = 2048
-LONGEST_PARK = 18432
 
 
 def turned(word, by):
@@ -166,6 +165,26 @@ def pair_of(point):
     return low, point - low * (low - 1) // 2
 
 
+class Layout(NamedTuple):
+    """What a layout fixes: the name, the numbers of a full park, the bytes of a digest, and the greatest memo."""
+
+    name: bytes
+    full: int
+    digest: int
+    memo: int
+
+    @property
+    def entry(self):
+        return 24 + self.digest
+
+    def longest(self, k):
+        return (9 if k <= 32 else 14) * self.full
+
+
+ONE = Layout(b"SPACEPLOT-OWN-1", 2048, 8, 0)
+TWO = Layout(b"SPACEPLOT-OWN-2", 4096, 16, 256)
+
+
 class Damage(Exception):
     """The words behind `damage`."""
 
@@ -181,22 +200,24 @@ class Reader:
         b = self.data
         if len(b) < 176 or b[0] != 1:
             raise Damage(f"not-open {len(b)} {b[0] if b else 0}")
-        k = b[48]
+        self.layout = TWO if b[1:16] == TWO.name else ONE
+        k, memo = b[48], int.from_bytes(b[49:51], "big")
         columns = [struct.unpack(">QQ", b[56 + 16 * t : 72 + 16 * t]) for t in range(7)]
         said = int.from_bytes(b[168:176], "big")
         for field, holds in [
-            ("name", b[1:16] == b"SPACEPLOT-OWN-1"),
-            ("size", 10 <= k <= 32),
-            ("zeros", b[49:56] == bytes(7)),
+            ("name", b[1:16] == self.layout.name),
+            ("size", 10 <= k <= 50),
+            ("zeros", not any(b[49:56] if self.layout is ONE else b[51:56])),
+            ("memo", memo <= self.layout.memo),
             ("counts", all(count <= 1 << (k + 1) for count, _ in columns)),
         ]:
             if not holds:
                 raise Damage(f"header {field}")
         if said != len(b):
             raise Damage(f"length {said} {len(b)}")
-        self.k, self.columns, self.ends = k, columns, [176]
+        self.k, self.columns, self.ends = k, columns, [176 + memo]
         for t, (count, directory) in enumerate(columns, 1):
-            end = directory + 32 * self.parks(t)
+            end = directory + self.layout.entry * self.parks(t)
             if directory < self.ends[-1] or end > len(b) or (count == 0 and directory != self.ends[-1]):
                 raise Damage(f"directory {t} 0")
             self.ends.append(end)
@@ -205,14 +226,15 @@ class Reader:
         self.space = Space(b[16:48], k)
 
     def parks(self, t):
-        return -(-self.columns[t - 1][0] // MOST_NUMBERS)
+        return -(-self.columns[t - 1][0] // self.layout.full)
 
     def entry(self, t, park):
         count, directory = self.columns[t - 1]
-        at = directory + 32 * park
-        offset, length, many, digest, head = struct.unpack(">QII8sQ", self.data[at : at + 32])
+        at, full = directory + self.layout.entry * park, self.layout.full
+        form = f">QII{self.layout.digest}sQ"
+        offset, length, many, digest, head = struct.unpack(form, self.data[at : at + self.layout.entry])
         inside = self.ends[t - 1] <= offset and offset + length <= directory
-        if not (1 <= length <= LONGEST_PARK and inside and many == min(MOST_NUMBERS, count - MOST_NUMBERS * park)):
+        if not (1 <= length <= self.layout.longest(self.k) and inside and many == min(full, count - full * park)):
             raise Damage(f"directory {t} {park}")
         if t < 7 and head != 0:
             raise Damage(f"directory {t} {park}")
@@ -220,7 +242,7 @@ class Reader:
 
     def park(self, t, park):
         data, many, digest, head = self.entry(t, park)
-        if hashlib.sha256(data).digest()[:8] != digest:
+        if hashlib.sha256(data).digest()[: self.layout.digest] != digest:
             raise Damage(f"digest {t} {park}")
         numbers = numbers_of(self.k, many, data)
         if numbers is None:
@@ -230,10 +252,10 @@ class Reader:
         return numbers
 
     def number(self, t, i):
-        at = t, i // MOST_NUMBERS
+        at = t, i // self.layout.full
         if at not in self.read:
             self.read[at] = self.park(*at)
-        number = self.read[at][i % MOST_NUMBERS]
+        number = self.read[at][i % self.layout.full]
         below = 1 << self.k if t == 1 else self.columns[t - 2][0]
         if t == 7:
             inside = number >> (self.k + 1) < 1 << self.k and number % (1 << (self.k + 1)) < below
@@ -251,7 +273,7 @@ class Reader:
             low, high = (middle + 1, high) if self.entry(7, middle)[3] < f else (low, middle)
         if low == 0:
             return 0, 0
-        return low, MOST_NUMBERS * (low - 1) + sum(n < f << (self.k + 1) for n in self.park(7, low - 1))
+        return low, self.layout.full * (low - 1) + sum(n < f << (self.k + 1) for n in self.park(7, low - 1))
 
     def places(self, challenge):
         f = int(bits_of(challenge)[: self.k], 2)

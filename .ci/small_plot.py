@@ -1,10 +1,11 @@
 #!/usr/bin/env python3
-"""Writes the plot file of the id of zeros at size 12, by plain loops that share nothing with the program, and beside it
+"""Writes the plot files of the id of zeros at size 12, by plain loops that share nothing with the program, and beside them
 what `prove`, `quality` and `verify` have to write for some challenges, and `check` for its own.
 
     small_plot.py FOLDER
 
-FOLDER/plot12 is the file. FOLDER/rows has a line for each challenge: the challenge, and the names of two files, of the text
+FOLDER/plot12 is the file of layout 2 without a memo, FOLDER/old12 that of layout 1, and FOLDER/memo12 that of layout 2 with the
+memo of the bytes ab and cd. FOLDER/rows has a line for each challenge: the challenge, and the names of two files, of the text
 of `prove` and of that of `quality`. FOLDER/proofs has a line for each proof of the rows: challenge, proof, quality.
 FOLDER/check.N is the text of `check` with N challenges.
 """
@@ -12,7 +13,7 @@ import hashlib
 import struct
 import sys
 
-from plain_plots import MOST_NUMBERS, Space, park_of, plot_order, targets, to_bytes, bits
+from plain_plots import ONE, TWO, Space, park_of, plot_order, targets, to_bytes, bits
 
 K = 12
 ID = bytes(32)
@@ -47,21 +48,21 @@ def lists_of(found):
     return tables
 
 
-def file_of(tables):
-    columns, body = b"", b""
+def file_of(layout, memo, tables):
+    columns, body, start = b"", b"", 176 + len(memo)
     for t, numbers in enumerate(tables, 1):
         entries = b""
-        for first in range(0, len(numbers), MOST_NUMBERS):
-            some = numbers[first : first + MOST_NUMBERS]
+        for first in range(0, len(numbers), layout.full):
+            some = numbers[first : first + layout.full]
             park = park_of(K, some)
-            digest = hashlib.sha256(park).digest()[:8]
+            digest = hashlib.sha256(park).digest()[: layout.digest]
             head = some[0] >> (K + 1) if t == 7 else 0
-            entries += struct.pack(">QII8sQ", 176 + len(body), len(park), len(some), digest, head)
+            entries += struct.pack(f">QII{layout.digest}sQ", start + len(body), len(park), len(some), digest, head)
             body += park
-        columns += struct.pack(">QQ", len(numbers), 176 + len(body))
+        columns += struct.pack(">QQ", len(numbers), start + len(body))
         body += entries
-    head = b"\1SPACEPLOT-OWN-1" + ID + bytes([K]) + bytes(7) + columns
-    return head + struct.pack(">Q", 176 + len(body)) + body
+    head = b"\1" + layout.name + ID + bytes([K]) + struct.pack(">H", len(memo)) + bytes(5) + columns
+    return head + struct.pack(">Q", start + len(body)) + memo + body
 
 
 def quality(challenge, values):
@@ -82,8 +83,10 @@ def summary(by_f7, n):
 
 def main(folder):
     found = found_tuples()
-    with open(f"{folder}/plot12", "wb") as out:
-        out.write(file_of(lists_of(found)))
+    tables = lists_of(found)
+    for name, layout, memo in [("plot12", TWO, b""), ("old12", ONE, b""), ("memo12", TWO, b"\xab\xcd")]:
+        with open(f"{folder}/{name}", "wb") as out:
+            out.write(file_of(layout, memo, tables))
     # For each number of proofs that an f7 has, and for none, a challenge with each of some last bytes.
     by_f7 = {f7: [] for f7 in range(2**K)}
     for f7, values in sorted(found, key=lambda one: plot_order(one[1])[::-1]):

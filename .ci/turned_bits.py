@@ -24,13 +24,14 @@ def changed(data):
     reader = Reader(data)
     for t in range(1, 8):
         for park in range(reader.parks(t)):
-            entry = reader.columns[t - 1][1] + 32 * park
+            entry = reader.columns[t - 1][1] + reader.layout.entry * park
             offset = int.from_bytes(data[entry : entry + 8], "big")
             length = int.from_bytes(data[entry + 8 : entry + 12], "big")
             for part in [0, length // 2, length - 1]:
                 copy = bytearray(data)
                 copy[offset + part] ^= 4
-                copy[entry + 16 : entry + 24] = hashlib.sha256(copy[offset : offset + length]).digest()[:8]
+                digest = hashlib.sha256(copy[offset : offset + length]).digest()[: reader.layout.digest]
+                copy[entry + 16 : entry + 16 + reader.layout.digest] = digest
                 yield f"byte {part} of park {park} of table {t}, with its digest", bytes(copy)
     for length in [0, 1, 175, 176, len(data) - 1]:
         yield f"cut after {length} bytes", data[:length]
