@@ -34,7 +34,7 @@ fn begin_header(alloc: Global, form: Form, memo: &[u8]) -> Result<Vec<u8>, Fail>
     bytes.push(form.letter)?;
     bytes.extend_from_slice(&[0; 32])?;
     bytes.push(10)?;
-    bytes.extend_from_slice(&(memo.len() as u16).to_be_bytes())?;
+    bytes.extend_from_slice(&(memo.len() as u64).to_be_bytes()[6..])?;
     bytes.extend_from_slice(&[0; 5])?;
     Ok(bytes)
 }
