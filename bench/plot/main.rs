@@ -158,8 +158,14 @@ fn encode_park<const K: u32>(numbers: &[(u64, u32)], writer: &mut BitWriter) {
     writer.put(low as u64, 7);
     for two in numbers.windows(2) {
         let step = two[1].0 - two[0].0 - 1;
-        writer.put_run(step >> low);
-        writer.put(step & ((1 << low) - 1), low);
+        let (run, rest) = (step >> low, step & ((1 << low) - 1));
+        if run + (low as u64) < 63 {
+            // a whole code as one number
+            writer.put((((2 << run) - 2) << low) | rest, run as u32 + 1 + low);
+        } else {
+            writer.put_run(run);
+            writer.put(rest, low);
+        }
     }
     writer.finish();
 }
