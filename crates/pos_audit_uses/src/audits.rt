@@ -109,9 +109,10 @@ fn a_number_too_many_is_found(rt: HostRuntime) -> Result<(), Fail> {
 #[test]
 fn a_name_that_is_there_is_named_and_kept(rt: HostRuntime) -> Result<(), Fail> {
     let alloc = rt.alloc();
+    let mut empty = MemoryDisk::new(alloc, Vec::new(alloc));
+    assert_eq!(rt; audit_of_p(alloc, &mut empty), Err(AuditFault::Absent));
     let file = empty_file(alloc)?;
     let mut disk = MemoryDisk::new(alloc, Vec::new(alloc));
-    assert_eq!(rt; audit_of_p(alloc, &mut disk), Err(AuditFault::Absent));
     disk.add("p", &file)?;
     disk.add("s.1", b"kept")?;
     let there = Err(AuditFault::Exists(AuditName::Scratch(1)));
