@@ -3,6 +3,8 @@ pub mod DecimalLemmas
 pub mod DigitLemmas
 pub mod FileLemmas
 pub mod ListLemmas
+pub mod FarmLemmas
+pub mod FarmTextLemmas
 pub mod InspectLemmas
 pub mod CheckLemmas
 pub mod NameLemmas

@@ -13,7 +13,7 @@ use Rattle.pos_harvest.proofs.DamageLemmas.{proof_list_damage_is_of_the_file, qu
 use Rattle.pos_layout.proofs.FileOpening.{nothing_where_opens}
 use Rattle.pos_app.specs.Statuses.{done_status, disk_fault_status, damage_status, name_status}
 use Rattle.pos_app.specs.Answers.{Speaks}
-use Rattle.pos_app.specs.Command.{Command, Verify, MakePlot, Prove, Quality, Inspect, CheckPlot, Survey, IsForChallenge, IsOnFile}
+use Rattle.pos_app.specs.Command.{Command, Verify, MakePlot, Prove, Quality, Inspect, CheckPlot, Survey, Farm, IsForChallenge, IsOnFile}
 use Rattle.pos_app.specs.FileAnswers.{IsOpeningDamage, NamesDamage, RefusesUnopened, SaysOfFile, SaysUnlessFault, ShowsText}
 use Rattle.pos_app.specs.InspectAnswers.{IsHeaderText}
 use Rattle.pos_app.specs.CheckAnswers.{IsCheckDamage, IsCheckedText}
@@ -24,12 +24,12 @@ use Rattle.pos_app.specs.Texts.{absent_line, damage_line, disk_fault_line}
 -- ---- what was written
 
 -- what is said is a front part of its text
-spoken : (status : ℕ) (text : List ℕ) (result : ℕ) (old new : Heard) → Speaks status text result old new → AppendsPartOf text old.text new.text
+pub spoken : (status : ℕ) (text : List ℕ) (result : ℕ) (old new : Heard) → Speaks status text result old new → AppendsPartOf text old.text new.text
 spoken status text result old new (inl said) =
     (length text, omega arith, said.whole ∙ ap (λ s. followed_by old.text s) (sym (take-length text)))
 spoken status text result old new (inr cut) = cut.part
 
-nothing_more : (text : Option (List ℕ)) → followed_by text [] ≡ text
+pub nothing_more : (text : Option (List ℕ)) → followed_by text [] ≡ text
 nothing_more None = refl
 nothing_more (Some text) = ap Some (append-nil text)
 
@@ -176,6 +176,7 @@ any_file (CheckPlot name n) file before after result old new tells on says =
     (refuses (IsCheckedText name n before after) (IsCheckDamage n) name before after result old new tells
     (λ text right. let held = right.told tells in (held.bytes, held.contents, held.opens)) (λ b d has. list_damage b d _ has) says)
 any_file (Survey k number n name base) file before after result old new tells on says = absurd on
+any_file (Farm list c) file before after result old new tells on says = absurd on
 
 -- ---- the causes of a damage
 
@@ -238,3 +239,4 @@ names_damage (Inspect name) file c before after result old new tells is on asked
     (names (IsHeaderText name before) IsOpeningDamage name c before after result old new tells is (λ b d has. inl (cause_found (layout_in b) b d has)) says)
 names_damage (CheckPlot name n) file c before after result old new tells is on asked says = absurd asked
 names_damage (Survey k number n name base) file c before after result old new tells is on asked says = absurd on
+names_damage (Farm list challenge) file c before after result old new tells is on asked says = absurd on

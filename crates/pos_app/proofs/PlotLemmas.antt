@@ -16,13 +16,13 @@ use Rattle.pos_layout.proofs.StoredLemmas.{shown_lists}
 use Rattle.pos_harvest.specs.Listings.{IsProofListDamage, IsQualityListDamage, ListsProofs, ListsQualities}
 use Rattle.pos_harvest.proofs.WholeLists.{each_place_has_a_proof, each_place_has_a_quality, listed_are_the_proofs, listed_are_the_qualities, only_a_place_without_proof, quality_is_of_the_branch}
 use Rattle.pos_harvest.proofs.WholeSpans.{span_is_of_the_list}
-use Rattle.pos_app.specs.Statuses.{damage_status, done_status}
+use Rattle.pos_app.specs.Statuses.{done_status}
 use Rattle.pos_edge.specs.Sinks.{Heard}
 use Rattle.pos_app.specs.Answers.{Speaks}
 use Rattle.pos_app.specs.FileAnswers.{IsOpeningDamage}
 use Rattle.pos_app.specs.ListAnswers.{SaysProofs, SaysQualities}
 use Rattle.pos_app.specs.PlotAnswers.{HoldsPlotOf, HoldsWholeFile, SaysTheProofs, SaysTheQualities, ShowsProofsOrNone, ShowsQualities, pair_qualities}
-use Rattle.pos_app.specs.Texts.{damage_line, proofs_text, qualities_text}
+use Rattle.pos_app.specs.Texts.{proofs_text, qualities_text}
 use Rattle.pos_app.proofs.ListLemmas.{not_there, one_bytes, whole_bytes}
 
 ok_list : (xs ys : List ℕ) → ◌≡◌ {A = Result (List ℕ) Damage} (Ok xs) (Ok ys) → xs ≡ ys

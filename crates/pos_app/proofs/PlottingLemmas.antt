@@ -12,7 +12,7 @@ use Rattle.pos_plot.specs.declared.fault.PlotFault.{PlotFault}
 use Rattle.pos_plot.specs.declared.fault.PlotFault.TheVariants.{Exists, TableFull, DiskFailed, Scratch, Memory}
 use Rattle.pos_plot.specs.declared.run.Counts.{Counts}
 use Rattle.pos_plot.specs.PlotRuns.{IsFirstThere, IsPlotRun}
-use Rattle.pos_app.specs.Statuses.{done_status, refused_status, usage_status, disk_fault_status, damage_status, name_status, full_status, sink_fault_status, scratch_status, memory_status}
+use Rattle.pos_app.specs.Statuses.{done_status, refused_status, usage_status, disk_fault_status, damage_status, name_status, full_status, sink_fault_status, scratch_status, memory_status, list_status}
 use Rattle.pos_app.specs.Answers.{EndsWith, Says}
 use Rattle.pos_app.specs.FileAnswers.{SaysUnlessFault}
 use Rattle.pos_layout.specs.declared.layout.Layout.TheVariants.{Two}
@@ -226,6 +226,7 @@ module _ (id : List ℕ) (k : ℕ) (file base : List ℕ) (before after : View) 
       not_refused = never refused_status (λ e. omega arith) (λ e. omega arith) (λ e. omega arith) (λ e. omega arith) (λ e. omega arith) (λ e. omega arith) (λ e. omega arith);
       not_usage = never usage_status (λ e. omega arith) (λ e. omega arith) (λ e. omega arith) (λ e. omega arith) (λ e. omega arith) (λ e. omega arith) (λ e. omega arith);
       not_damage = never damage_status (λ e. omega arith) (λ e. omega arith) (λ e. omega arith) (λ e. omega arith) (λ e. omega arith) (λ e. omega arith) (λ e. omega arith);
+      not_list = never list_status (λ e. omega arith) (λ e. omega arith) (λ e. omega arith) (λ e. omega arith) (λ e. omega arith) (λ e. omega arith) (λ e. omega arith);
     }
 
     -- and what it leaves

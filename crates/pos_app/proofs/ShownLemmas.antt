@@ -1,5 +1,5 @@
 -- What a command finds in an open plot: qualities, or why reading it ended early.
-use Rattle.std.proofs.Common.{◌≡◌, ◌⊎◌, ℕ, ◌+◌, ◌*◌, ◌≤◌, List, length, Result, Ok, Err, refl, sym, ap, ◌∙◌, subst, inl, inr, arith}
+use Rattle.std.proofs.Common.{◌≡◌, ◌⊎◌, ℕ, ◌+◌, ◌*◌, ◌≤◌, List, length, Result, Err, refl, sym, ap, ◌∙◌, subst, inr, arith}
 use Rattle.std.specs.Prelude.{IsErrOf}
 use Rattle.pos_edge.specs.Faults.{Rose}
 use Rattle.pos_edge.specs.Frame.{ChangesOnly, Nothing, SameFaults}

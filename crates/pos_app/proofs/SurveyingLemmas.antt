@@ -15,7 +15,7 @@ use Rattle.pos_check.specs.declared.surveying.SurveyFault.{SurveyFault}
 use Rattle.pos_check.specs.declared.surveying.SurveyFault.TheVariants.{Plot, Open, Read}
 use Rattle.pos_check.specs.Challenges.{survey_id}
 use Rattle.pos_check.specs.Surveys.{IsDiskFault, IsSurvey, StopsAtOnce}
-use Rattle.pos_app.specs.Statuses.{done_status, refused_status, usage_status, disk_fault_status, damage_status, name_status, full_status, sink_fault_status, scratch_status, memory_status}
+use Rattle.pos_app.specs.Statuses.{done_status, refused_status, usage_status, disk_fault_status, damage_status, name_status, full_status, sink_fault_status, scratch_status, memory_status, list_status}
 use Rattle.pos_app.specs.Answers.{EndsWith, Says}
 use Rattle.pos_app.specs.FileAnswers.{SaysUnlessFault}
 use Rattle.pos_app.specs.PlottingAnswers.{EndsSafely, counts_of}
@@ -287,5 +287,7 @@ module _ (k number n : ℕ) (file base : List ℕ) (before after : View) (result
     not_refused = other_status says.answer refused_status (λ e. omega arith) (λ e. omega arith) (λ e. omega arith) (λ e. omega arith) (λ e. omega arith) (λ e. omega arith) (λ e. omega arith)
         (λ e. omega arith) says.said;
     not_usage = other_status says.answer usage_status (λ e. omega arith) (λ e. omega arith) (λ e. omega arith) (λ e. omega arith) (λ e. omega arith) (λ e. omega arith) (λ e. omega arith)
+        (λ e. omega arith) says.said;
+    not_list = other_status says.answer list_status (λ e. omega arith) (λ e. omega arith) (λ e. omega arith) (λ e. omega arith) (λ e. omega arith) (λ e. omega arith) (λ e. omega arith)
         (λ e. omega arith) says.said;
   }

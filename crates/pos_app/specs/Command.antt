@@ -22,6 +22,8 @@ pub data Command : Type 0 where
   CheckPlot : (file : List ℕ) (n : ℕ) → Command
   -- make the plot of a number and test it by so many challenges
   Survey : (k number n : ℕ) (file base : List ℕ) → Command
+  -- ask the plots of a list for a challenge
+  Farm : (list challenge : List ℕ) → Command
 
 -- the word is this name
 abbrev pub is_name : List ℕ → List ℕ → Bool
@@ -53,7 +55,7 @@ abbrev pub question_of : Option (List ℕ) → Option (List ℕ) → Option (Lis
 question_of (Some file) (Some challenge) = Some (file, challenge)
 question_of file challenge = None
 
--- the words behind `prove` and `quality`: FILE CHALLENGE
+-- the words behind `prove` and `quality`, FILE CHALLENGE, and behind `farm`, LIST CHALLENGE
 abbrev pub question_words : List (List ℕ) → Option (List ℕ × List ℕ)
 question_words (file ∷ challenge ∷ []) = question_of (file_word file) (hash_word challenge)
 question_words words = None
@@ -95,6 +97,7 @@ command_of (name ∷ words) =
     else if is_name (codes "inspect") name then inspect_command words
     else if is_name (codes "check") name then check_command words
     else if is_name (codes "survey") name then survey_command words
+    else if is_name (codes "farm") name then option_map (λ (q : List ℕ × List ℕ). Farm q.0 q.1) (question_words words)
     else None
 
 -- the words ask for this command; they are no command
@@ -113,6 +116,7 @@ needs_disk (Quality file challenge) = true
 needs_disk (Inspect file) = true
 needs_disk (CheckPlot file n) = true
 needs_disk (Survey k number n file base) = true
+needs_disk (Farm list challenge) = true
 
 -- the words are no such command
 abbrev pub NeedsNoDisk : List (String Global) → Type 0
@@ -127,6 +131,7 @@ makes_files (Quality file challenge) = false
 makes_files (Inspect file) = false
 makes_files (CheckPlot file n) = false
 makes_files (Survey k number n file base) = true
+makes_files (Farm list challenge) = false
 
 -- the words are no such command
 abbrev pub MakesNoFile : List (String Global) → Type 0
@@ -141,6 +146,7 @@ IsOnFile name (Quality file challenge) = file ≡ name
 IsOnFile name (Inspect file) = file ≡ name
 IsOnFile name (CheckPlot file n) = file ≡ name
 IsOnFile name (Survey k number n file base) = ⊥
+IsOnFile name (Farm list challenge) = ⊥
 
 -- the words ask something of this plot file
 abbrev pub AsksOfFile : List (String Global) → List ℕ → Type 0
@@ -155,6 +161,7 @@ IsForChallenge c (Quality file challenge) = challenge ≡ c
 IsForChallenge c (Inspect file) = Unit {0}
 IsForChallenge c (CheckPlot file n) = ⊥
 IsForChallenge c (Survey k number n file base) = Unit {0}
+IsForChallenge c (Farm list challenge) = challenge ≡ c
 
 -- the words ask something of this plot file, for this challenge
 abbrev pub AsksFor : List (String Global) → List ℕ → List ℕ → Type 0
@@ -169,6 +176,24 @@ IsVerify (Quality file challenge) = ⊥
 IsVerify (Inspect file) = ⊥
 IsVerify (CheckPlot file n) = ⊥
 IsVerify (Survey k number n file base) = ⊥
+IsVerify (Farm list challenge) = ⊥
 
 abbrev pub AsksToVerify : List (String Global) → Type 0
 AsksToVerify words = (command : Command) × Asks words command × IsVerify command
+
+-- a command that asks the plots of a list; the words ask for one, or for none such
+abbrev pub asks_list : Command → Bool
+asks_list (Verify id k challenge proof) = false
+asks_list (MakePlot id k file base) = false
+asks_list (Prove file challenge) = false
+asks_list (Quality file challenge) = false
+asks_list (Inspect file) = false
+asks_list (CheckPlot file n) = false
+asks_list (Survey k number n file base) = false
+asks_list (Farm list challenge) = true
+
+abbrev pub AsksList : List (String Global) → Type 0
+AsksList words = (command : Command) × Asks words command × (asks_list command ≡ true)
+
+abbrev pub AsksNoList : List (String Global) → Type 0
+AsksNoList words = IfSome (command_of (map string_bytes words)) (λ command. IsFalse (asks_list command))

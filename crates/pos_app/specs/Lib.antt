@@ -12,5 +12,7 @@ pub mod ListAnswers
 pub mod PlotAnswers
 pub mod CheckAnswers
 pub mod SurveyAnswers
+pub mod FarmTexts
+pub mod FarmAnswers
 pub mod Refused
 pub mod Obeyed

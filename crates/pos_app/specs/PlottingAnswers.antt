@@ -18,7 +18,7 @@ use Rattle.pos_plot.specs.declared.run.TheConstants.{SCRATCH_FILES}
 use Rattle.pos_layout.specs.declared.layout.Layout.TheVariants.{Two}
 use Rattle.pos_plot.specs.PlotFiles.{IsNew, OpensAs}
 use Rattle.pos_plot.specs.PlotRuns.{IsFirstThere, IsPlotRun, IsRunName}
-use Rattle.pos_app.specs.Statuses.{done_status, refused_status, usage_status, disk_fault_status, damage_status, name_status, full_status, scratch_status}
+use Rattle.pos_app.specs.Statuses.{done_status, refused_status, usage_status, disk_fault_status, damage_status, name_status, full_status, scratch_status, list_status}
 use Rattle.pos_app.specs.Answers.{EndsWith, IsUnsaid, Says, Speaks}
 use Rattle.pos_app.specs.FileAnswers.{SaysUnlessFault}
 use Rattle.pos_app.specs.Texts.{plotted_line, exists_line, full_line, scratch_line, disk_fault_line}
@@ -111,3 +111,4 @@ pub record IsPlotStatus (result : ℕ) : Type 0 where
   pub not_refused : result ≢ refused_status
   pub not_usage : result ≢ usage_status
   pub not_damage : result ≢ damage_status
+  pub not_list : result ≢ list_status

@@ -2,12 +2,11 @@
 use Rattle.std.specs.Prelude.{◌≡◌, ◌≢◌, ◌≤◌, List, [], ℕ, length, slice_index, Option, Some, None, IsSome, unwrap_or}
 use Rattle.std.specs.Bool.{IsFalse}
 use Rattle.pos_app.specs.Words.{begins_as_scratch, bytes_word}
-use Rattle.pos_app.specs.Command.{Command as Meant, Verify as MeantVerify, MakePlot as MeantPlot, Prove as MeantProve, Quality as MeantQuality, Inspect as MeantInspect, CheckPlot as MeantCheck, Survey as MeantSurvey}
+use Rattle.pos_app.specs.Command.{Command as Meant, Verify as MeantVerify, MakePlot as MeantPlot, Prove as MeantProve, Quality as MeantQuality, Inspect as MeantInspect, CheckPlot as MeantCheck, Survey as MeantSurvey, Farm as MeantFarm}
 use Rattle.pos_app.specs.declared.command.Command.{Command}
-use Rattle.pos_app.specs.declared.command.Making.{Making}
 use Rattle.pos_app.specs.declared.command.Names.{Names}
 use Rattle.pos_app.specs.declared.command.Surveyed.{Surveyed}
-use Rattle.pos_app.specs.declared.command.Command.TheVariants.{Verify, MakePlot, Prove, Quality, Inspect, CheckPlot, Survey}
+use Rattle.pos_app.specs.declared.command.Command.TheVariants.{Verify, MakePlot, Prove, Quality, Inspect, CheckPlot, Survey, Farm}
 
 -- the bytes that hexadecimal digits write
 abbrev pub digits_bytes : List ℕ → List ℕ
@@ -22,6 +21,7 @@ meant (Quality question) = MeantQuality question.file.now question.challenge.0
 meant (Inspect file) = MeantInspect file.now
 meant (CheckPlot test) = MeantCheck test.file.now test.challenges
 meant (Survey made) = MeantSurvey made.size made.number made.challenges made.names.file.now made.names.base.now
+meant (Farm question) = MeantFarm question.file.now question.challenge.0
 
 -- the name of the file does not begin as those of the scratch files do
 abbrev pub AreOutputNames : Names → Type 0
@@ -41,6 +41,7 @@ IsObeyable (Quality question) = Unit {0}
 IsObeyable (Inspect file) = Unit {0}
 IsObeyable (CheckPlot test) = test.challenges ≤ 1000000
 IsObeyable (Survey made) = IsSurveyable made
+IsObeyable (Farm question) = Unit {0}
 
 -- it is the one that the words are, or there is none
 abbrev pub Reads : Option Command → Option Meant → Type 0

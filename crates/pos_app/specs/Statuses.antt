@@ -40,3 +40,7 @@ scratch_status = 8
 -- memory was wanting
 abbrev pub memory_status : ℕ
 memory_status = 9
+
+-- a line of the list is not that of a name, or is one too many
+abbrev pub list_status : ℕ
+list_status = 11

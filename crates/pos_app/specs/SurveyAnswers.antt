@@ -16,7 +16,7 @@ use Rattle.pos_check.specs.declared.surveying.SurveyFault.TheVariants.{Plot, Ope
 use Rattle.pos_check.specs.Challenges.{survey_id}
 use Rattle.pos_check.specs.SummaryLaws.{SumsUp}
 use Rattle.pos_check.specs.Surveys.{IsSurvey}
-use Rattle.pos_app.specs.Statuses.{done_status, refused_status, usage_status, disk_fault_status, damage_status, name_status, scratch_status}
+use Rattle.pos_app.specs.Statuses.{done_status, refused_status, usage_status, disk_fault_status, damage_status, name_status, scratch_status, list_status}
 use Rattle.pos_app.specs.Answers.{EndsWith, IsUnsaid, Says, Speaks}
 use Rattle.pos_app.specs.PlottingAnswers.{CanPlot, SaysPlotFault, TellsFullTable, TellsNames, counts_of}
 use Rattle.pos_app.specs.Texts.{absent_line, checked_line, damage_line, disk_fault_line, plotted_line}
@@ -78,3 +78,4 @@ pub record TellsSurvey (k number n : ℕ) (file base : List ℕ) (before after :
 pub record IsSurveyStatus (result : ℕ) : Type 0 where
   pub not_refused : result ≢ refused_status
   pub not_usage : result ≢ usage_status
+  pub not_list : result ≢ list_status

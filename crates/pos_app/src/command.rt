@@ -28,6 +28,8 @@ pub enum Command<'a> {
     CheckPlot(Test<'a>),
     /// Make the plot of a number, and test it.
     Survey(Surveyed<'a>),
+    /// Ask the plots of a list for a challenge, and find the best of their proofs.
+    Farm(Question<'a>),
 }
 
 /// A proof, as an even number of hexadecimal digits, with what it is to be a proof for.
@@ -54,7 +56,7 @@ pub struct Names<'a> {
     pub base: &'a str,
 }
 
-/// The name of a plot file, and the challenge that it is asked for.
+/// The name of a plot file, or of a list of plot files, and the challenge that it is asked for.
 #[derive(Clone, Copy)]
 pub struct Question<'a> {
     pub file: &'a str,
@@ -93,6 +95,7 @@ pub fn read_command(words: &[String]) -> Option<Command<'_>>
         Some((name, rest)) if name.as_str() == "inspect" => read_inspect(rest),
         Some((name, rest)) if name.as_str() == "check" => read_check(rest),
         Some((name, rest)) if name.as_str() == "survey" => read_survey(rest),
+        Some((name, rest)) if name.as_str() == "farm" => Some(Command::Farm(read_question(rest)?)),
         _ => None,
     }
 }
@@ -181,7 +184,7 @@ fn begins_with_stop(bytes: &[u8]) -> bool
     matches!(bytes.first(), Some(b'.'))
 }
 
-// Reads the words behind `prove` and `quality`.
+// Reads the words behind `prove`, `quality` and `farm`.
 fn read_question(words: &[String]) -> Option<Question<'_>>
     ensures { option_map (λ question. (question.file.now, question.challenge.0)) result ≡ question_words (map string_bytes words.now) }
 {

@@ -2,6 +2,8 @@
 #![tactic(auto)]
 
 mod command;
+mod farm_lines;
+mod farming;
 mod plotting;
 mod program;
 mod refusal;

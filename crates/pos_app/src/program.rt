@@ -1,11 +1,12 @@
 // The top call.
 ghost use Rattle.std.specs.Prelude.{◌≡◌, ◌≢◌, ◌*◌, ◌≤◌, ◌↔◌, true, ℕ, List, IsSome, length};
 ghost use Rattle.std.specs.Bool.{IsFalse};
+ghost use Rattle.pos_edge.specs.Faults.{Rose};
 ghost use Rattle.pos_edge.specs.Frame.{ChangesOnly, Nothing};
 ghost use Rattle.pos_verify.specs.Verdict.{IsAcceptance, IsProofBytes, IsRight};
 ghost use Rattle.pos_app.specs.Words.{bytes_word};
-ghost use Rattle.pos_app.specs.Command.{Verify, MakePlot, Prove, Quality, Inspect, CheckPlot, Survey, Asks, AsksFor, AsksOfFile, AsksToVerify, IsNoCommand, MakesNoFile, NeedsNoDisk, makes_files, needs_disk};
-ghost use Rattle.pos_app.specs.Statuses.{done_status, refused_status, usage_status, disk_fault_status, damage_status, sink_fault_status, memory_status};
+ghost use Rattle.pos_app.specs.Command.{Verify, MakePlot, Prove, Quality, Inspect, CheckPlot, Survey, Farm, Asks, AsksFor, AsksList, AsksNoList, AsksOfFile, AsksToVerify, IsNoCommand, MakesNoFile, NeedsNoDisk, asks_list, makes_files, needs_disk};
+ghost use Rattle.pos_app.specs.Statuses.{done_status, refused_status, usage_status, disk_fault_status, damage_status, sink_fault_status, memory_status, list_status};
 ghost use Rattle.pos_app.specs.Texts.{usage_line};
 ghost use Rattle.pos_app.specs.Answers.{Speaks, TellsFaults, TellsSinkFaults};
 ghost use Rattle.pos_app.specs.VerifyAnswers.{SaysVerdict, TellsProofs, verdict_status};
@@ -16,12 +17,14 @@ ghost use Rattle.pos_app.specs.ListAnswers.{SaysProofs, SaysQualities, WritesNoF
 ghost use Rattle.pos_app.specs.PlotAnswers.{HoldsPlotOf, HoldsWholeFile, ShowsProofsOrNone, ShowsQualities, SaysTheProofs, SaysTheQualities};
 ghost use Rattle.pos_app.specs.CheckAnswers.{SaysCheck, SaysTheSummary, ShowsSummaryOrNone, ReadsForCheck, NamesCheckDamage};
 ghost use Rattle.pos_app.specs.SurveyAnswers.{SaysSurvey, TellsSurvey, IsSurveyStatus};
+ghost use Rattle.pos_app.specs.FarmAnswers.{NamesNoFalseProof, SaysFarm, TellsList};
 ghost use Rattle.pos_check.specs.Challenges.{survey_id};
 ghost use Rattle.pos_app.specs.Obeyed.{SaysAnswer, TellsAnswer};
 ghost use Rattle.pos_app.specs.Refused.{SaysRefusal};
 ghost use Rattle.pos_app.specs.Read.{IsObeyable, digits_bytes, meant};
 
 use crate::command::{Command, Judged, Question, Test, read_command};
+use crate::farming::run_farm;
 use crate::plotting::run_plot;
 use crate::refusal::Refusal;
 use crate::saying::{DAMAGE, DISK_FAULT, DONE, NAME, OUT_OF_MEMORY, REFUSED, USAGE, say, say_text};
@@ -42,9 +45,11 @@ pub fn run<D: Disk, S: Sink>(alloc: Global, words: &[String], disk: &mut D, out:
     ensures usage { IsNoCommand words.now
         → Speaks usage_status usage_line result (S.heard out.old) (S.heard out.new) }
 
-    // The usage line's status comes from them alone, and that of a refused proof from `verify` alone.
+    // The usage line's status comes from them alone, that of a refused proof from `verify` alone, and that of a bad line from
+    // `farm` alone.
     ensures usage_only { result ≡ usage_status → IsNoCommand words.now }
     ensures refused_only { result ≡ refused_status → AsksToVerify words.now }
+    ensures list_only { result ≡ list_status → AsksList words.now }
 
     // `verify ID K CHALLENGE PROOF`.
     ensures verify { (id challenge proof : List ℕ) (k : ℕ) → Asks words.now (Verify id k challenge proof)
@@ -110,15 +115,25 @@ pub fn run<D: Disk, S: Sink>(alloc: Global, words: &[String], disk: &mut D, out:
     ensures survey_crash { (file base : List ℕ) (k number n : ℕ) → Asks words.now (Survey k number n file base)
         → EndsSafely (survey_id number) k file base (D.view disk.old) (D.view disk.new) }
 
+    // `farm LIST CHALLENGE`: what each plot of the list answers and the best of their proofs, or why there is no list; what the
+    // list decides, over a disk that tells; and that the best proof is none that is false, over every disk.
+    ensures farm { (list c : List ℕ) → Asks words.now (Farm list c)
+        → SaysFarm list c (D.view disk.old) (D.view disk.new) result (S.heard out.old) (S.heard out.new) }
+    ensures farm_list { (list c : List ℕ) → Asks words.now (Farm list c) → (D.view disk.old).tells ≡ true
+        → TellsList list c (D.view disk.old) (D.view disk.new) result (S.heard out.old) (S.heard out.new) }
+    ensures farm_proof { (list c : List ℕ) → Asks words.now (Farm list c)
+        → NamesNoFalseProof list c (S.heard out.old) (S.heard out.new) }
+
     // Every command on a file, over a disk that tells: a file that is not there or does not open, and what 4 names.
     ensures any_file { (file : List ℕ) → AsksOfFile words.now file → (D.view disk.old).tells ≡ true
         → RefusesUnopened file (D.view disk.old) (D.view disk.new) result (S.heard out.old) (S.heard out.new) }
     ensures damages { (file c : List ℕ) → AsksFor words.now file c → (D.view disk.old).tells ≡ true → result ≡ damage_status
         → NamesDamage file c (D.view disk.old) (S.heard out.old) (S.heard out.new) }
 
-    // Every run.
+    // Every run; but `farm`, which goes on where the disk fails at a plot, may end well though the disk's faults rose.
     ensures sink_fault { TellsSinkFaults result (S.heard out.old) (S.heard out.new) }
-    ensures disk_fault { TellsFaults result (D.view disk.old) (D.view disk.new) }
+    ensures disk_fault { result ≡ disk_fault_status → Rose (D.view disk.old).faults (D.view disk.new).faults }
+    ensures disk_told { AsksNoList words.now → TellsFaults result (D.view disk.old) (D.view disk.new) }
     ensures out_of_memory { result ≡ memory_status → (S.heard out.new).text ≡ (S.heard out.old).text }
     ensures no_disk { NeedsNoDisk words.now → disk.new ≡ disk.old }
     ensures files { MakesNoFile words.now → ChangesOnly Nothing Nothing (D.view disk.old) (D.view disk.new) }
@@ -134,7 +149,8 @@ fn obey<D: Disk, S: Sink>(alloc: Global, command: &Command<'_>, disk: &mut D, ou
     requires { IsObeyable command.now }
     ensures answer { SaysAnswer (meant command.now) (D.view disk.old) (D.view disk.new) result (S.heard out.old) (S.heard out.new) }
     ensures proofs { TellsAnswer (meant command.now) result }
-    ensures faults { TellsFaults result (D.view disk.old) (D.view disk.new) }
+    ensures disk_fault { result ≡ disk_fault_status → Rose (D.view disk.old).faults (D.view disk.new).faults }
+    ensures faults { IsFalse (asks_list (meant command.now)) → TellsFaults result (D.view disk.old) (D.view disk.new) }
     ensures sink { TellsSinkFaults result (S.heard out.old) (S.heard out.new) }
     ensures disk { IsFalse (needs_disk (meant command.now)) → disk.new ≡ disk.old }
     ensures files { IsFalse (makes_files (meant command.now)) → ChangesOnly Nothing Nothing (D.view disk.old) (D.view disk.new) }
@@ -147,6 +163,7 @@ fn obey<D: Disk, S: Sink>(alloc: Global, command: &Command<'_>, disk: &mut D, ou
         Command::Inspect(file) => run_inspect(alloc, file, disk, out),
         Command::CheckPlot(test) => run_check(alloc, test, disk, out),
         Command::Survey(made) => run_survey(alloc, made, disk, out),
+        Command::Farm(question) => run_farm(alloc, question, disk, out),
     }
 }
 

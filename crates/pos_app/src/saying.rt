@@ -27,6 +27,8 @@ pub const SCRATCH_DAMAGE: u8 = 8;
 
 pub const OUT_OF_MEMORY: u8 = 9;
 
+pub const BAD_LINE: u8 = 11;
+
 /// Writes a text for which there was memory.
 pub fn say_text<S: Sink>(text: Result<String, AllocError>, out: &mut S, status: u8) -> u8
     ensures said { IfOk text (λ line. Speaks status (string_bytes line) result (S.heard out.old) (S.heard out.new)) }

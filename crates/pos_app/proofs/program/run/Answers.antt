@@ -1,14 +1,15 @@
 -- The command that was obeyed is the one that the words are, and the clauses follow from what it says.
 use Rattle.std.proofs.Common.{◌≡◌}
 use Rattle.std.specs.Prelude.{map, string_bytes, Some}
-use Rattle.pos_app.specs.Command.{Command, Verify, MakePlot, Prove, Quality, Inspect, CheckPlot, Survey, command_of}
+use Rattle.pos_app.specs.Command.{Command, Verify, MakePlot, Prove, Quality, Inspect, CheckPlot, Survey, Farm, command_of}
 use Rattle.pos_app.specs.Obeyed.{SaysAnswer}
 use Rattle.pos_app.specs.Read.{meant}
 use Rattle.pos_app.proofs.AnswerLemmas.{says_answer-same, tells_answer-same}
 use Rattle.pos_app.proofs.ListLemmas.{any_file, names_damage, no_false_proof, reads_for_proofs, reads_for_qualities}
+use Rattle.pos_app.proofs.FarmLemmas.{names_no_false_proof, tells_list}
 use Rattle.pos_app.proofs.InspectLemmas.{shows_header}
 use Rattle.pos_app.proofs.CheckLemmas.{names_check_damage, reads_for_check, says_of_whole_check, says_the_summary}
-use Rattle.pos_app.proofs.StatusLemmas.{never_usage, only_verify_refuses, usage_is_no_refusal}
+use Rattle.pos_app.proofs.StatusLemmas.{never_usage, only_farm_lists, only_verify_refuses}
 use Rattle.pos_app.proofs.SurveyingLemmas.{is_survey_status, survey_ends_safely, tells_survey}
 use Rattle.pos_app.proofs.PlottingLemmas.{tells_plotting, is_plot_status, ends_safely}
 use Rattle.pos_app.proofs.PlotLemmas.{says_of_whole_proofs, says_of_whole_qualities, says_the_proofs, says_the_qualities}
@@ -32,6 +33,10 @@ returns-in-Some-clause-usage_only g c is = absurd (never_usage (meant c.in-Some.
 pub returns-in-Some-clause-refused_only : goal.returns-in-Some-clause-refused_only
 returns-in-Some-clause-refused_only g c is =
     (meant c.in-Some.command, obeyed g c, only_verify_refuses (meant c.in-Some.command) _ _ c.obey.result _ _ c.obey.ensures.answer is)
+
+pub returns-in-Some-clause-list_only : goal.returns-in-Some-clause-list_only
+returns-in-Some-clause-list_only g c is =
+    (meant c.in-Some.command, obeyed g c, only_farm_lists (meant c.in-Some.command) _ _ c.obey.result _ _ c.obey.ensures.answer is)
 
 pub returns-in-Some-clause-verify : goal.returns-in-Some-clause-verify
 returns-in-Some-clause-verify g c id challenge proof k e = says g c (Verify id k challenge proof) e
@@ -69,6 +74,17 @@ returns-in-Some-clause-survey_status g c file base k number n e =
 pub returns-in-Some-clause-survey_crash : goal.returns-in-Some-clause-survey_crash
 returns-in-Some-clause-survey_crash g c file base k number n e =
     survey_ends_safely k number n file base _ _ c.obey.result _ _ (says g c (Survey k number n file base) e) (g.met.D.Disk.is_disk c.obey.new.disk)
+
+pub returns-in-Some-clause-farm : goal.returns-in-Some-clause-farm
+returns-in-Some-clause-farm g c list challenge e = says g c (Farm list challenge) e
+
+pub returns-in-Some-clause-farm_list : goal.returns-in-Some-clause-farm_list
+returns-in-Some-clause-farm_list g c list challenge e tells =
+    tells_list list challenge _ _ c.obey.result _ _ tells (says g c (Farm list challenge) e)
+
+pub returns-in-Some-clause-farm_proof : goal.returns-in-Some-clause-farm_proof
+returns-in-Some-clause-farm_proof g c list challenge e =
+    names_no_false_proof list challenge _ _ c.obey.result _ _ (says g c (Farm list challenge) e)
 
 pub returns-in-Some-clause-inspect : goal.returns-in-Some-clause-inspect
 returns-in-Some-clause-inspect g c file e = says g c (Inspect file) e
