@@ -104,6 +104,9 @@ def main(folder):
             for kind, texts, noun in [("prove", lines, "proofs"), ("quality", qualities, "qualities")]:
                 with open(f"{folder}/{kind}.{name}", "w") as out:
                     out.write("".join(text + "\n" for text in texts) + f"{count} {noun}\n")
+            first = sum(len(by_f7[lower]) for lower in range(f7))
+            with open(f"{folder}/place.{name}", "w") as out:
+                out.write("".join(f"{first + i}\n" for i in range(count)) + f"{count} places\n")
             rows.append(f"{challenge.hex()} prove.{name} quality.{name}\n")
             proofs += [f"{challenge.hex()} {proof} {rated}\n" for proof, rated in zip(lines, qualities)]
     for n in [0, 1, 100, 300]:

@@ -1,5 +1,6 @@
 """Judges proofs in one call: python3 verify.py LIBRARY, with a line for each on the standard input, ID SIZE CHALLENGE PROOF,
-the size in decimal digits and all else in hexadecimal ones. On each line it says what the program's command `verify` says."""
+the size in decimal digits and all else in hexadecimal ones. On each line it says what the program's command `verify` says, and
+"wrong arguments" where the words are none of that command."""
 import ctypes
 import sys
 
@@ -20,15 +21,30 @@ class Answer(ctypes.Structure):
                 "wrong arguments"][self.verdict]
 
 
+def bytes_of(word):
+    """The bytes that an even number of hexadecimal digits write, or None."""
+    try:
+        return bytes.fromhex(word)
+    except ValueError:
+        return None
+
+
+def size_of(word):
+    """A size in decimal digits without a leading zero, or 0, which no plot has."""
+    return int(word) if word.isascii() and word.isdigit() and word[0] != "0" and int(word) < 2**32 else 0
+
+
 library = ctypes.CDLL(sys.argv[1])
 assert library.pos_version() == 1
 requests, proofs = [], bytearray()
 for line in sys.stdin:
     words = line.split() + [""]
-    id, challenge, proof = (bytes.fromhex(words[i]) for i in (0, 2, 3))
+    id, challenge, proof = (bytes_of(words[i]) for i in (0, 2, 3))
     # What does not stand in a request as it is would be judged as something else: a request of zeros has wrong arguments.
-    fits = len(id) == len(challenge) == 32 and 0 <= int(words[1]) < 2**32
-    requests.append(Request(Hash(*id), Hash(*challenge), len(proofs), len(proof), int(words[1])) if fits else Request())
+    if None in (id, challenge, proof) or not len(id) == len(challenge) == 32:
+        requests.append(Request())
+        continue
+    requests.append(Request(Hash(*id), Hash(*challenge), len(proofs), len(proof), size_of(words[1])))
     proofs += proof
 count = len(requests)
 answers = (Answer * count)()
