@@ -1,0 +1,4 @@
+pub mod Faults
+pub mod Conversions
+pub mod ConversionLaws
+pub mod Copies
