@@ -2,7 +2,7 @@
 
 use crate::tests::{FILE, small_file};
 use pos_edge::{Disk, MemoryDisk};
-use pos_farm::{Answer, best, farm, read_list};
+use pos_farm::{Answer, ask, best, farm, read_list};
 use pos_layout::Damage;
 use pos_tuple::Challenge;
 use std::alloc::Global;
@@ -99,5 +99,42 @@ fn a_plot_whose_disk_fails_ends_nothing(rt: HostRuntime) -> Result<(), Fail> {
     assert_eq!(rt; answers.first(), Some(&Answer::DiskFailed));
     assert_eq!(rt; number_in(answers.get(1)), Some(1));
     assert_eq!(rt; best_of(answers.as_slice()), Some((1, 0, QUALITY)));
+    Ok(())
+}
+
+/// Removes the file `p`.
+fn remove_plot<D: Disk>(disk: &mut D) -> Result<(), Fail> {
+    let Ok(file) = disk.open("p") else {
+        return Err(Fail::from("the plot is there"));
+    };
+    let Ok(()) = disk.remove(file) else {
+        return Err(Fail::from("the disk does not fail"));
+    };
+    Ok(())
+}
+
+/// How many proofs the plot `p` answers with; None where it answers with none.
+fn number_of_p<D: Disk>(
+    alloc: Global,
+    challenge: &Challenge,
+    disk: &mut D,
+) -> Result<Option<u64>, Fail> {
+    match ask(alloc, "p", challenge, disk) {
+        Ok(Answer::Proofs { number, .. }) => Ok(Some(number)),
+        Ok(Answer::Absent) => Ok(None),
+        _ => Err(Fail::from("the plot answers, or is absent")),
+    }
+}
+
+#[test]
+fn a_plot_that_goes_between_two_names_is_absent(rt: HostRuntime) -> Result<(), Fail> {
+    let alloc = rt.alloc();
+    let mut disk = disk_of_two(alloc, b"", &[])?;
+    let challenge = challenge_of(0x8e, 0xb0);
+    let first = number_of_p(alloc, &challenge, &mut disk)?;
+    assert_eq!(rt; first, Some(1));
+    remove_plot(&mut disk)?;
+    let second = number_of_p(alloc, &challenge, &mut disk)?;
+    assert_eq!(rt; second, None);
     Ok(())
 }
