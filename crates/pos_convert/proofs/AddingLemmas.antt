@@ -23,10 +23,6 @@ pub answer_none : (p : PlotState) (t at least n : ℕ) (r : Option Damage) → r
 answer_none p t at least n None is answer = answer
 answer_none p t at least n (Some d) is answer = absurd (none-some d (sym is))
 
-pub answer_some : (p : PlotState) (t at least n : ℕ) (r : Option Damage) (d : Damage) → r ≡ Some d → NumberAnswer p t at least n r → NumberShows p t at least n d
-answer_some p t at least n None d is answer = absurd (none-some d is)
-answer_some p t at least n (Some e) d is answer = subst (λ (x : Damage). NumberShows p t at least n x) (same_Some e d is) answer
-
 -- ---- several numbers
 
 -- The first numbers, so many, were added.

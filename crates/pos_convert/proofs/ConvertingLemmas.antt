@@ -23,8 +23,8 @@ use Rattle.pos_reader.proofs.ReadLemmas.{IsOpen-kept, IsPlotFile-kept}
 use Rattle.pos_convert.specs.declared.fault.ConvertFault.{ConvertFault}
 use Rattle.pos_convert.specs.declared.fault.ConvertFault.TheVariants.{Exists, DiskFailed, Damage as IsDamaged, Memory}
 use Rattle.pos_convert.specs.Faults.{of_work}
-use Rattle.pos_convert.specs.Conversions.{IsConversion, IsConvertCause, IsConverted, IsFileStop, IsLeftConverted, IsStopped, OpensConverted}
-use Rattle.pos_convert.specs.Copies.{HasBegun, HasCopiedTables, HasStarted, IsApart, IsCopying, IsStart, IsStartCause, filled}
+use Rattle.pos_convert.specs.Conversions.{IsConversion, IsConvertCause, IsConverted, IsFileStop, IsLeftConverted, StopsAtName, OpensConverted}
+use Rattle.pos_convert.specs.Copies.{HasBegun, HasCopiedTables, HasStartedCopy, IsApart, IsCopying, IsCopyStart, IsCopyStartCause, filled}
 use Rattle.pos_convert.proofs.StartLemmas.{images_called, there_absent}
 use Rattle.pos_convert.proofs.CopyingLemmas.{apart_copied, file_copied, open_copied}
 use Rattle.pos_convert.proofs.FileLemmas.{file_converted, finished_opens, shut_opens, tiny_opens}
@@ -54,7 +54,7 @@ module _ (p : PlotState) (memo name : List ℕ) (o : View) (disk : IsDisk o) (is
   not_called : o.contents name ≡ None → (n : List ℕ) → NameOf p.file o n → n ≡ name → ⊥
   not_called none n named same = let t = (disk.named p.file n named).there in none-some t.0 (sym (ap o.contents same ∙ none) ∙ t.1)
 
-  module _ {X : Type 0} (r : Result X ConvertFault) (a : View) (start : IsStart name r o a) where
+  module _ {X : Type 0} (r : Result X ConvertFault) (a : View) (start : IsCopyStart name r o a) where
     started_open : IsOpen p a
     started_open = elim (cases_there (o.contents name)) [
       | inl some ↦ IsOpen-kept Nothing Nothing p o a (start.there some) (λ x. x) (λ n named x. x) is
@@ -70,20 +70,20 @@ module _ (p : PlotState) (memo name : List ℕ) (o : View) (disk : IsDisk o) (is
     started_images : o.contents name ≡ None → (b : List ℕ) → EachImage name (OpensConverted memo b) o a
     started_images none b = each_weaker name IsTinyOrShut (OpensConverted memo b) o a (tiny_opens memo b) (start.images none)
 
-  start_cause : (fault : ConvertFault) (a : View) → IsStartCause name o a fault → IsConvertCause p name o a fault
+  start_cause : (fault : ConvertFault) (a : View) → IsCopyStartCause name o a fault → IsConvertCause p name o a fault
   start_cause Exists a cause = cause
   start_cause DiskFailed a cause = cause
   start_cause (IsDamaged d) a cause = absurd cause
   start_cause Memory a cause = tt
 
-  start_stops : (fault : ConvertFault) (a : View) → IsStartCause name o a fault → IsStopped (Err fault)
+  start_stops : (fault : ConvertFault) (a : View) → IsCopyStartCause name o a fault → StopsAtName (Err fault)
   start_stops Exists a cause = tt
   start_stops DiskFailed a cause = tt
   start_stops (IsDamaged d) a cause = absurd cause
   start_stops Memory a cause = tt
 
   -- the file was not begun
-  pub convert_not_started : {X : Type 0} (fault : ConvertFault) (result : Result ℕ ConvertFault) (a : View) → result ≡ Err fault → IsStart {X = X} name (Err fault) o a → IsConversion p p memo name result o a
+  pub convert_not_started : {X : Type 0} (fault : ConvertFault) (result : Result ℕ ConvertFault) (a : View) → result ≡ Err fault → IsCopyStart {X = X} name (Err fault) o a → IsConversion p p memo name result o a
   convert_not_started fault result a same start = subst (λ r. IsConversion p p memo name r o a) (sym same) (record {
     others = start.kept;
     same = refl;
@@ -97,7 +97,7 @@ module _ (p : PlotState) (memo name : List ℕ) (o : View) (disk : IsDisk o) (is
     left = tt;
   })
 
-  module _ {X : Type 0} (x : X) (w : WriterState) (a : View) (start : IsStart name (Ok x) o a) (started : HasStarted p memo name w o a) where
+  module _ {X : Type 0} (x : X) (w : WriterState) (a : View) (start : IsCopyStart name (Ok x) o a) (started : HasStartedCopy p memo name w o a) where
     new_file : (f : ℕ) → o.is_live f ≡ true → f ≡ w.file → ⊥
     new_file f live same = false≢true (sym started.fresh ∙ (ap o.is_live (sym same) ∙ live))
 

@@ -106,15 +106,6 @@ copying_done p q u v x y a b copying = record {
   begun = λ e. cc;
 }
 
-pub copying_damaged : {X Y : Type 0} (p q : PlotState) (u v : WriterState) (x : X) (d : Damage) (a b : View) → IsCopying p q u v (Ok x) a b → IsCopying {X = Y} p q u v (Err (IsDamaged d)) a b
-copying_damaged p q u v x d a b copying = record {
-  same = copying.same;
-  writes = copying.writes;
-  file = copying.file;
-  faults = faults_none DiskFailed (Err (IsDamaged d)) a b copying.faults.quiet (λ e. cc);
-  begun = λ e. cc;
-}
-
 -- a refusal that is handed on
 pub copying_refused : {X Y : Type 0} (p q : PlotState) (u v : WriterState) (fault : ConvertFault) (result : Result Y ConvertFault) (a b : View) → result ≡ Err fault
     → IsCopying {X = X} p q u v (Err fault) a b → IsCopying p q u v result a b

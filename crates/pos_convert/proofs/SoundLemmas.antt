@@ -17,7 +17,7 @@ use Rattle.pos_layout.proofs.LayoutLemmas.{full_few}
 use Rattle.pos_reader.specs.Plots.{PlotState, IsPlotFile}
 use Rattle.pos_reader.proofs.AnswerLemmas.{num_found, num_refused, tested_false, tested_true}
 use Rattle.pos_rice.specs.declared.TheConstants.{MOST_NUMBERS}
-use Rattle.pos_convert.specs.Conversions.{IsOutOfOrder, IsSoundPlace, IsTableStop, ShowsAt}
+use Rattle.pos_convert.specs.Conversions.{DoesNotRise, IsSoundPlace, IsTableStop, ShowsAt}
 use Rattle.pos_convert.specs.Copies.{AreRead, AreSound, IsListStop, IsParkDamaged, IsParkStop, NumberShows, PointsInside, PointsOutside, ReadAs, Rises, least_after}
 
 -- ---- numbers that rise
@@ -128,11 +128,6 @@ place_within : (l : Layout) (n park j : ℕ) → j < park_count l n park → ful
 unfolding full_of
 place_within One n park j few = omega arith
 place_within Two n park j few = omega arith
-
-pub park_within : (l : Layout) (n park : ℕ) → park < parks_of l n → full_of l * park + park_count l n park ≤ n
-unfolding full_of
-park_within One n park there = omega arith
-park_within Two n park there = omega arith
 
 pub parks_at : (l : Layout) (n c : ℕ) → c < parks_of l n → min (full_of l * c) n ≡ full_of l * c
 unfolding full_of
@@ -265,7 +260,7 @@ module _ (p : PlotState) (b : List ℕ) (said : p.header ≡ header_in b) (t par
       all_read = let less = place_less in read_joined front ns spot as_long reads stop.read.reads (omega arith) ns_few list.before.inside
 
       -- what is out of order has one before it
-      out_of_order : (i : ℕ) → length all ≡ i → slice_index ns spot < least_after 0 all → num (layout_in b) b t i ≡ Ok (slice_index ns spot) → IsOutOfOrder (layout_in b) b t i
+      out_of_order : (i : ℕ) → length all ≡ i → slice_index ns spot < least_after 0 all → num (layout_in b) b t i ≡ Ok (slice_index ns spot) → DoesNotRise (layout_in b) b t i
       out_of_order zero none less read = let least = nothing_least all none in absurd (omega arith)
       out_of_order (suc i) long less read =
           let least = least_whole 0 all i long in

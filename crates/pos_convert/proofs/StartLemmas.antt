@@ -23,7 +23,7 @@ use Rattle.pos_reader.specs.Plots.{PlotState}
 use Rattle.pos_convert.specs.declared.fault.ConvertFault.{ConvertFault}
 use Rattle.pos_convert.specs.declared.fault.ConvertFault.TheVariants.{DiskFailed}
 use Rattle.pos_convert.specs.Faults.{of_create, of_work}
-use Rattle.pos_convert.specs.Copies.{HasStarted, IsStart, IsStartCause}
+use Rattle.pos_convert.specs.Copies.{HasStartedCopy, IsCopyStart, IsCopyStartCause}
 
 -- a memo of so many bytes is one of the second layout
 pub memo_allowed : (n : ℕ) → n ≤ 256 → n ≤ memo_of Two
@@ -45,8 +45,8 @@ still_absent name a b disk kept none = each_beside name IsTinyOrShut Nothing Not
     (λ i img. subst IsTinyOrShut (sym (disk.absent_image name i none img)) (inl tt))
 
 -- nothing was done
-start_untouched : (X : Type 0) (name : List ℕ) (fault : ConvertFault) (a b : View) → IsDisk a → IsUntouched a b → ChangesOnly (Just name) Nothing a b → IsStartCause name a b fault
-    → IsStart {X = X} name (Err fault) a b
+start_untouched : (X : Type 0) (name : List ℕ) (fault : ConvertFault) (a b : View) → IsDisk a → IsUntouched a b → ChangesOnly (Just name) Nothing a b → IsCopyStartCause name a b fault
+    → IsCopyStart {X = X} name (Err fault) a b
 start_untouched X name fault a b disk u kept cause = record {
   kept = kept;
   there = λ some. u.kept;
@@ -57,7 +57,7 @@ start_untouched X name fault a b disk u kept cause = record {
 
 -- the file was not made
 pub start_refused : (X : Type 0) (name : List ℕ) (e : CreateFault) (a b : View) → IsDisk a → ChangesOnly (Just name) Nothing a b → (e ≡ IsTaken → WasThere name a × IsUntouched a b)
-    → (e ≡ CreateFailed → IsHalfCreated name a b) → (e ≡ CreateMemory → IsUntouched a b) → IsStart {X = X} name (Err (of_create e)) a b
+    → (e ≡ CreateFailed → IsHalfCreated name a b) → (e ≡ CreateMemory → IsUntouched a b) → IsCopyStart {X = X} name (Err (of_create e)) a b
 start_refused X name IsTaken a b disk kept exists failed memory = let h = exists refl in start_untouched X name _ a b disk h.1 kept (h.0, h.1.kept)
 start_refused X name CreateMemory a b disk kept exists failed memory = start_untouched X name _ a b disk (memory refl) kept tt
 start_refused X name CreateFailed a b disk kept exists failed memory = let h = failed refl in record {
@@ -93,7 +93,7 @@ images_called P name file c b disk tells told each = elim (cases_Bool c.tells) [
 -- the file was made, and begun with this answer
 start_begun : {X Y : Type 0} (name : List ℕ) (file : ℕ) (q : Result X WorkFault) (r : Result Y ConvertFault) (a c b : View) → IsDisk c → IsDisk b
     → ChangesOnly (Just name) Nothing a c → IsCreated name file a c → Works IsTinyOrShut file q c b
-    → MatchResult r (λ y. Unit {0}) (IsStartCause name a b) → SameFaultsBut DiskFailed r a b → IsStart name r a b
+    → MatchResult r (λ y. Unit {0}) (IsCopyStartCause name a b) → SameFaultsBut DiskFailed r a b → IsCopyStart name r a b
 start_begun name file q r a c b disk_c disk_b kept new works cause quiet = record {
   kept = frame_then (Just name) (Just name) (NameOf file c) Nothing Nothing (Just file) a c b (λ n x. x) (called name file c disk_c new.named) (λ f l x. x)
       (λ f l is. false≢true (sym new.fresh ∙ (ap a.is_live (sym is) ∙ l))) kept works.kept.frame;
@@ -106,26 +106,26 @@ start_begun name file q r a c b disk_c disk_b kept new works cause quiet = recor
 }
 
 -- the fault of the beginning
-begin_cause : (name : List ℕ) (e : WorkFault) (a c b : View) → a.faults ≤ c.faults → (e ≡ WorkFailed → Rose c.faults b.faults) → IsStartCause name a b (of_work e)
+begin_cause : (name : List ℕ) (e : WorkFault) (a c b : View) → a.faults ≤ c.faults → (e ≡ WorkFailed → Rose c.faults b.faults) → IsCopyStartCause name a b (of_work e)
 begin_cause name WorkFailed a c b less failed = Rose-since a.faults c.faults b.faults less (failed refl)
 begin_cause name WorkMemory a c b less failed = tt
 begin_cause name (ScratchExists n) a c b less failed = tt
 begin_cause name (WorkDamage d) a c b less failed = tt
 
 pub start_failed : {X : Type 0} (Y : Type 0) (name : List ℕ) (file : ℕ) (e : WorkFault) (a c b : View) → IsDisk c → IsDisk b
-    → ChangesOnly (Just name) Nothing a c → IsCreated name file a c → SameFaults a c → Works {X = X} IsTinyOrShut file (Err e) c b → IsStart {X = Y} name (Err (of_work e)) a b
+    → ChangesOnly (Just name) Nothing a c → IsCreated name file a c → SameFaults a c → Works {X = X} IsTinyOrShut file (Err e) c b → IsCopyStart {X = Y} name (Err (of_work e)) a b
 start_failed Y name file e a c b disk_c disk_b kept new same works =
     start_begun name file (Err e) (Err (of_work e)) a c b disk_c disk_b kept new works
     (begin_cause name e a c b kept.faults (λ is. works.failed (ap (λ f. Err f) is)))
     (λ other. works.quiet (λ is. other (ap of_work is)) ∙ same)
 
 pub start_went_well : {X Y : Type 0} (name : List ℕ) (file : ℕ) (x : X) (y : Y) (a c b : View) → IsDisk c → IsDisk b
-    → ChangesOnly (Just name) Nothing a c → IsCreated name file a c → SameFaults a c → Works IsTinyOrShut file (Ok x) c b → IsStart name (Ok y) a b
+    → ChangesOnly (Just name) Nothing a c → IsCreated name file a c → SameFaults a c → Works IsTinyOrShut file (Ok x) c b → IsCopyStart name (Ok y) a b
 start_went_well name file x y a c b disk_c disk_b kept new same works =
     start_begun name file (Ok x) (Ok y) a c b disk_c disk_b kept new works tt (works.quiet ∙ same)
 
 pub started : {X : Type 0} (p : PlotState) (memo id : List ℕ) (k : ℕ) (name : List ℕ) (file : ℕ) (w : WriterState) (r : Result X WorkFault) (a c b : View) → IsDisk c → IsDisk b
-    → id ≡ p.header.id.0 → k ≡ p.header.size → IsCreated name file a c → Works IsTinyOrShut file r c b → IsBegun file Two k w → Stands w (begun Two memo id k) b → HasStarted p memo name w a b
+    → id ≡ p.header.id.0 → k ≡ p.header.size → IsCreated name file a c → Works IsTinyOrShut file r c b → IsBegun file Two k w → Stands w (begun Two memo id k) b → HasStartedCopy p memo name w a b
 started p memo id k name file w r a c b disk_c disk_b same_id same_size new works begins stands = record {
   absent = new.was_absent;
   fresh = ap a.is_live begins.file_is ∙ new.fresh;

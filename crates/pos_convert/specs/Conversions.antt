@@ -28,7 +28,7 @@ pub record IsSoundPlace (l : Layout) (b : List ℕ) (t i : ℕ) : Type 0 where
   pub above : (before : ℕ) → 0 < i → num l b t (i - 1) ≡ Ok before → before < number
 
 -- The numbers at a place and before it are read, and do not rise.
-pub record IsOutOfOrder (l : Layout) (b : List ℕ) (t i : ℕ) : Type 0 where
+pub record DoesNotRise (l : Layout) (b : List ℕ) (t i : ℕ) : Type 0 where
   pub before : ℕ
   pub number : ℕ
   pub later : 0 < i
@@ -38,7 +38,7 @@ pub record IsOutOfOrder (l : Layout) (b : List ℕ) (t i : ℕ) : Type 0 where
 
 -- a place shows this damage: reading finds it, or the place is out of order
 abbrev pub ShowsAt : Layout → List ℕ → ℕ → ℕ → Damage → Type 0
-ShowsAt l b t i d = (num l b t i ≡ Err d) ⊎ ((d ≡ Order t i) × IsOutOfOrder l b t i)
+ShowsAt l b t i d = (num l b t i ≡ Err d) ⊎ ((d ≡ Order t i) × DoesNotRise l b t i)
 
 -- The first place of a table that is not sound shows this damage.
 pub record IsTableStop (l : Layout) (b : List ℕ) (t : ℕ) (d : Damage) : Type 0 where
@@ -92,11 +92,11 @@ IsConvertCause p name old new (IsDamaged d) = (b : List ℕ) → IsPlotFile p b 
 IsConvertCause p name old new Memory = Unit {0}
 
 -- the answers of a conversion that finds the name of its new file there
-abbrev pub IsStopped : Result ℕ ConvertFault → Type 0
-IsStopped (Err Exists) = Unit {0}
-IsStopped (Err DiskFailed) = Unit {0}
-IsStopped (Err Memory) = Unit {0}
-IsStopped _ = ⊥
+abbrev pub StopsAtName : Result ℕ ConvertFault → Type 0
+StopsAtName (Err Exists) = Unit {0}
+StopsAtName (Err DiskFailed) = Unit {0}
+StopsAtName (Err Memory) = Unit {0}
+StopsAtName _ = ⊥
 
 -- A conversion of an open plot to a new file of a name, with a memo, whatever it answered. What it says of the old file is
 -- said of the bytes that the file holds when the conversion begins.
@@ -109,7 +109,7 @@ pub record IsConversion (p q : PlotState) (memo name : List ℕ) (result : Resul
   pub stays_file : (b : List ℕ) → IsPlotFile p b old → IsPlotFile q b new
   -- where the name was there, it changed and made nothing, and answered so
   pub there : IsSome (old.contents name) → ChangesOnly Nothing Nothing old new
-  pub stops : IsSome (old.contents name) → IsStopped result
+  pub stops : IsSome (old.contents name) → StopsAtName result
   -- where that name was absent, at each moment what opens under it is the converted file
   pub images : old.contents name ≡ None → (b : List ℕ) → IsPlotFile p b old → EachImage name (OpensConverted memo b) old new
   pub cause : IfErr result (IsConvertCause p name old new)

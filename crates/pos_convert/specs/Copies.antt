@@ -164,23 +164,23 @@ pub record HasCopiedTables (p : PlotState) (n : ℕ) (before after : WriterState
 -- ---- the start
 
 -- why the new file was not begun
-abbrev pub IsStartCause : List ℕ → View → View → ConvertFault → Type 0
-IsStartCause name old new Exists = WasThere name old × ChangesOnly Nothing Nothing old new
-IsStartCause name old new DiskFailed = Rose old.faults new.faults
-IsStartCause name old new (IsDamaged d) = ⊥
-IsStartCause name old new Memory = Unit {0}
+abbrev pub IsCopyStartCause : List ℕ → View → View → ConvertFault → Type 0
+IsCopyStartCause name old new Exists = WasThere name old × ChangesOnly Nothing Nothing old new
+IsCopyStartCause name old new DiskFailed = Rose old.faults new.faults
+IsCopyStartCause name old new (IsDamaged d) = ⊥
+IsCopyStartCause name old new Memory = Unit {0}
 
 -- The file of this name was made and begun, or was not. Whatever was answered, each image of it is tiny or has a closed gate.
-pub record IsStart {X : Type 0} (name : List ℕ) (result : Result X ConvertFault) (old new : View) : Type 0 where
+pub record IsCopyStart {X : Type 0} (name : List ℕ) (result : Result X ConvertFault) (old new : View) : Type 0 where
   pub kept : ChangesOnly (Just name) Nothing old new
   pub there : IsSome (old.contents name) → ChangesOnly Nothing Nothing old new
   pub images : old.contents name ≡ None → EachImage name IsTinyOrShut old new
-  pub cause : IfErr result (IsStartCause name old new)
+  pub cause : IfErr result (IsCopyStartCause name old new)
   pub quiet : SameFaultsBut DiskFailed result old new
 
 -- The name was absent, and a writer stands for the plot's id and size with no numbers, in a file of this name that was not
 -- open before.
-pub record HasStarted (p : PlotState) (memo name : List ℕ) (w : WriterState) (old new : View) : Type 0 where
+pub record HasStartedCopy (p : PlotState) (memo name : List ℕ) (w : WriterState) (old new : View) : Type 0 where
   pub absent : old.contents name ≡ None
   pub fresh : old.is_live w.file ≡ false
   pub begins : IsBegun w.file Two p.header.size w

@@ -1,6 +1,6 @@
 // The start of a conversion: its file is made, with a closed gate.
 ghost use Rattle.std.specs.Prelude.{◌≡◌, ◌≤◌, length, IfOk};
-ghost use Rattle.pos_convert.specs.Copies.{HasStarted, IsStart};
+ghost use Rattle.pos_convert.specs.Copies.{HasStartedCopy, IsCopyStart};
 
 use crate::ConvertFault;
 use pos_edge::Disk;
@@ -20,8 +20,8 @@ pub(crate) fn start<D: Disk>(
     disk: &mut D,
 ) -> Result<PlotWriter, ConvertFault>
     requires memo { length memo.now ≤ MOST_MEMO }
-    ensures start { IsStart name.now result (D.view disk.old) (D.view disk.new) }
-    ensures ok { IfOk result (λ w. HasStarted plot.now memo.now name.now w (D.view disk.old) (D.view disk.new)) }
+    ensures start { IsCopyStart name.now result (D.view disk.old) (D.view disk.new) }
+    ensures ok { IfOk result (λ w. HasStartedCopy plot.now memo.now name.now w (D.view disk.old) (D.view disk.new)) }
 {
     let file = disk.create(name)?;
     let writer = PlotWriter::begin(
